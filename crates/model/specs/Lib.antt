@@ -1,0 +1,4 @@
+pub mod Graph
+pub mod Measures
+pub mod Numbers
+pub mod Runs
