@@ -1,0 +1,3 @@
+// What the program says of an image, as text.
+pub mod listing;
+mod scope_line;
