@@ -49,11 +49,17 @@ pub fn list_image(heap: Global, bytes: &[u8]) -> Result<Listing, AllocError>
     match open(bytes) {
         Ok(image) => {
             let text = scope_lines(heap, &image)?;
-            Ok(Listing { text, refused: false })
+            Ok(Listing {
+                text,
+                refused: false,
+            })
         }
         Err(refusal) => {
             let text = refusal_line(heap, refusal)?;
-            Ok(Listing { text, refused: true })
+            Ok(Listing {
+                text,
+                refused: true,
+            })
         }
     }
 }

@@ -21,8 +21,18 @@ pub impl fmt::Display for ScopeLine as ScopeLineDisplay {
     ghost shown = { λ l. Some (line-text l) };
 
     fn fmt<W: fmt::Write>(&self, f: &mut fmt::Formatter<W>) -> fmt::Result {
-        let ScopeLine { scope, least, most, nodes, edges, facts } = *self;
-        write!(f, "scope {scope} passes {least}-{most} nodes {nodes} edges {edges} facts {facts}")
+        let ScopeLine {
+            scope,
+            least,
+            most,
+            nodes,
+            edges,
+            facts,
+        } = *self;
+        write!(
+            f,
+            "scope {scope} passes {least}-{most} nodes {nodes} edges {edges} facts {facts}"
+        )
     }
 }
 
@@ -34,5 +44,12 @@ pub fn scope_line<G: ScopeGraph>(graph: &G, scope: usize) -> Option<ScopeLine>
     let nodes = graph.nodes(scope)?;
     let edges = graph.edges(scope)?;
     let facts = graph.facts(scope)?;
-    Some(ScopeLine { scope, least, most, nodes, edges, facts })
+    Some(ScopeLine {
+        scope,
+        least,
+        most,
+        nodes,
+        edges,
+        facts,
+    })
 }
