@@ -51,6 +51,7 @@ abbrev pub under : {A : Type 0} → Option (ℕ × ℕ) → (ℕ × ℕ → Opti
 under None f = None
 under (Some p) f = f p
 
--- how many parts f finds, where scope number s is there
-abbrev pub count-of : {X : Type 0} → (Record → Option X) → ℕ → List Record → Option ℕ
-count-of f s rs = under (nth (parts passes-in rs) s) (λ p. Some (length (parts f rs)))
+-- how many parts f finds in a list of the whole graph, or of a scope that is there
+abbrev pub count-of : {X : Type 0} → (Record → Option X) → Option ℕ → List Record → Option ℕ
+count-of f None rs = Some (length (parts f rs))
+count-of f (Some s) rs = under (nth (parts passes-in rs) s) (λ p. Some (length (parts f rs)))

@@ -11,7 +11,6 @@ use crate::part::NodesPart;
 use crate::part::Scopes;
 use crate::part::ScopesPart;
 use crate::seek::count;
-use crate::seek::count_in;
 use crate::seek::seek;
 use model::graph::Edge;
 use model::graph::Fact;
@@ -22,7 +21,8 @@ pub impl<'a> ScopeGraph for Image<'a> as ImageGraph {
     ghost graph = { λ i. meant (now (i .bytes)) };
 
     fn scopes(&self) -> usize {
-        count(self.bytes, &Scopes)
+        // the list of the scopes belongs to no scope, so it is always there
+        count(self.bytes, &Scopes).unwrap_or(0)
     }
 
     fn passes(&self, scope: usize) -> Option<(u16, u16)> {
@@ -30,15 +30,15 @@ pub impl<'a> ScopeGraph for Image<'a> as ImageGraph {
     }
 
     fn nodes(&self, scope: usize) -> Option<usize> {
-        count_in(self.bytes, &Nodes(scope), scope)
+        count(self.bytes, &Nodes(scope))
     }
 
     fn edges(&self, scope: usize) -> Option<usize> {
-        count_in(self.bytes, &Edges(scope), scope)
+        count(self.bytes, &Edges(scope))
     }
 
     fn facts(&self, scope: usize) -> Option<usize> {
-        count_in(self.bytes, &Facts(scope), scope)
+        count(self.bytes, &Facts(scope))
     }
 
     fn node(&self, scope: usize, n: usize) -> Option<Node> {

@@ -1,9 +1,8 @@
 // Parts of the graph, found by going over the records.
 ghost use mathlib.Core.Path.{_≡_};
 ghost use lib.ListN.{length};
-ghost use Rattle.std.specs.Finite.{nth};
-ghost use Rattle.image.specs.Meaning.{records, reading};
-ghost use Rattle.image.specs.Parts.{parts, count-of};
+ghost use Rattle.image.specs.Meaning.{records, reading, meant};
+ghost use Rattle.image.specs.Parts.{parts};
 use crate::part::Part;
 use crate::part::Scopes;
 use crate::part::ScopesPart;
@@ -11,15 +10,15 @@ use crate::place::Place;
 use crate::place::Step;
 use crate::walk::step;
 
-// Part number n.
-pub fn seek<P: Part>(bytes: &[u8], what: &P, n: usize) -> Option<P::Item>
-    ensures { λ r. ⌜ r ≡ nth (parts (P·Part .picks (now (what .entry))) (records (reading (now (bytes .entry))))) n ⌝ }
+// Item number n of the list.
+pub fn seek<P: Part>(bytes: &[u8], list: &P, n: usize) -> Option<P::Item>
+    ensures { λ r. ⌜ r ≡ P·Part .asked (now (list .entry)) (meant (now (bytes .entry))) n ⌝ }
 {
     let mut left = n;
     let mut place = Place { at: 5, seen: 0 };
     while let Step::Next(found, after) = step(bytes, place) {
         place = after;
-        if let Some(item) = what.pick(found) {
+        if let Some(item) = list.pick(found) {
             if left == 0 {
                 return Some(item);
             }
@@ -29,27 +28,30 @@ pub fn seek<P: Part>(bytes: &[u8], what: &P, n: usize) -> Option<P::Item>
     None
 }
 
-// How many parts there are.
-pub fn count<P: Part>(bytes: &[u8], what: &P) -> usize
-    ensures { λ r. ⌜ r ≡ length (parts (P·Part .picks (now (what .entry))) (records (reading (now (bytes .entry))))) ⌝ }
+// How many records add to the list.
+fn additions<P: Part>(bytes: &[u8], list: &P) -> usize
+    ensures { λ r. ⌜ r ≡ length (parts (P·Part .picks (now (list .entry))) (records (reading (now (bytes .entry))))) ⌝ }
 {
     let mut sum = 0;
     let mut place = Place { at: 5, seen: 0 };
     while let Step::Next(found, after) = step(bytes, place) {
         place = after;
-        if what.pick(found).is_some() {
+        if list.pick(found).is_some() {
             sum += 1;
         }
     }
     sum
 }
 
-// How many parts there are, where the scope is there.
-pub fn count_in<P: Part>(bytes: &[u8], what: &P, scope: usize) -> Option<usize>
-    ensures { λ r. ⌜ r ≡ count-of (P·Part .picks (now (what .entry))) scope (records (reading (now (bytes .entry)))) ⌝ }
+// The length of the list, where the scope that it belongs to is there.
+pub fn count<P: Part>(bytes: &[u8], list: &P) -> Option<usize>
+    ensures { λ r. ⌜ r ≡ P·Part .counted (now (list .entry)) (meant (now (bytes .entry))) ⌝ }
 {
+    let Some(scope) = list.scope() else {
+        return Some(additions(bytes, list));
+    };
     match seek(bytes, &Scopes, scope) {
         None => None,
-        Some(_) => Some(count(bytes, what)),
+        Some(_) => Some(additions(bytes, list)),
     }
 }
