@@ -58,12 +58,12 @@ abbrev pub reached-by : Option Edge → List ℕ
 reached-by None = []
 reached-by (Some x) = reached-at (x .to)
 
-abbrev pub reached : Scope → List ℕ → List ℕ
-reached s [] = []
-reached s (e ∷ es) = reached-by (nth (s .edges) e) ++ reached s es
+abbrev pub reached : List Edge → List ℕ → List ℕ
+reached edges [] = []
+reached edges (e ∷ es) = reached-by (nth edges e) ++ reached edges es
 
-abbrev pub executed : Scope → List ℕ → List ℕ
-executed s es = 0 ∷ reached s es
+abbrev pub executed : List Edge → List ℕ → List ℕ
+executed edges es = 0 ∷ reached edges es
 
 abbrev pub Among : ℕ → List ℕ → Type 0
 Among n [] = ⊥
@@ -86,8 +86,8 @@ abbrev mutual
 
   -- the passes from number k on: all but the last end in AGAIN, the last in LEAVE, and each meets the facts of its number
   pub ArePasses : List Scope → Scope → ℕ → Passes → Type 0
-  ArePasses g s k (final w) = IsWalk g s (To 0) Leave w × Meets (s .facts) k (executed s (way-of w))
-  ArePasses g s k (then w ps) = (IsWalk g s (To 0) Again w × Meets (s .facts) k (executed s (way-of w))) × ArePasses g s (suc k) ps
+  ArePasses g s k (final w) = IsWalk g s (To 0) Leave w × Meets (s .facts) k (executed (s .edges) (way-of w))
+  ArePasses g s k (then w ps) = (IsWalk g s (To 0) Again w × Meets (s .facts) k (executed (s .edges) (way-of w))) × ArePasses g s (suc k) ps
 
   -- w leads from one place to the other: each edge starts where the one before ended
   pub IsWalk : List Scope → Scope → Target → Target → Walk → Type 0

@@ -1,0 +1,9 @@
+pub mod Bests
+pub mod Cuts
+pub mod Facts
+pub mod Fronts
+pub mod Lifting
+pub mod Passes
+pub mod Powers
+pub mod Ranges
+pub mod Shown
