@@ -100,15 +100,15 @@ module _ {C : Type 0} {m : Measure C} (laws : Laws m) (g : List Scope) (s : Scop
 
   -- what is best of the ways of a pass is best of the passes
   pub lifted : (value : ℕ → Option C) → AreValues m g s value → (chosen : ℕ → Run) → AreBest m g s chosen → (k : ℕ) (end : Target) (x : Option C) →
-      IsBest m (WayCost m value s k end) x → IsBest m (PassCost m g s k end) x
-  lifted value vals chosen bests k end x h = best-above laws (PassCost m g s k end) (WayCost m value s k end) x up part h
+      IsBest m (WayCost m value (s .edges) (s .facts) k end) x → IsBest m (PassCost m g s k end) x
+  lifted value vals chosen bests k end x h = best-above laws (PassCost m g s k end) (WayCost m value (s .edges) (s .facts) k end) x up part h
     where
-      up : (c : C) → PassCost m g s k end c → (d : C) × WayCost m value s k end d × AtMost m c d
+      up : (c : C) → PassCost m g s k end c → (d : C) × WayCost m value (s .edges) (s .facts) k end d × AtMost m c d
       up c t =
           let a = walk-at-most value vals (To 0) end (t .0) (t .1 .0) in
           (a .0, (way-of (t .0), (way-leads g s (To 0) end (t .0) (t .1 .0), t .1 .1), a .1), subst (λ v. AtMost m v (a .0)) (t .2) (a .2))
 
-      part : (c : C) → WayCost m value s k end c → PassCost m g s k end c
+      part : (c : C) → WayCost m value (s .edges) (s .facts) k end c → PassCost m g s k end c
       part c t =
           let a = along chosen bests value vals (To 0) end (t .0) c (t .1 .0) (t .2) in
           (walk-along chosen s (t .0), (a .0, subst (λ es. Meets (s .facts) k (executed (s .edges) es)) (sym (way-along chosen s (t .0))) (t .1 .1)), a .1)

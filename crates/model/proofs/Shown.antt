@@ -55,20 +55,20 @@ module _ {C : Type 0} (m : Measure C) (g : List Scope) (trail : List Line) (chos
         walk-shown (h .0 .to) end es (j .1) (h .3) (j .3),
       )
 
-  pub passes-shown : (k n : ℕ) (ws : List (List ℕ)) (w : List ℕ) (a b : C) → AreFrontWays m value s k ws a → IsPassWay s n Leave w → way-cost m value w ≡ Some b → PassesShown g trail (passes-along chosen s ws w)
+  pub passes-shown : (k n : ℕ) (ws : List (List ℕ)) (w : List ℕ) (a b : C) → AreFrontWays m value s k ws a → IsPassWay (s .edges) (s .facts) n Leave w → way-cost m value w ≡ Some b → PassesShown g trail (passes-along chosen s ws w)
   passes-shown k n [] w a b f h e = walk-shown (To 0) Leave w b (h .0) e
   passes-shown k n (v ∷ vs) w a b (a₁, a₂, hv, ev, rest, f) h e = (walk-shown (To 0) Again v a₁ (hv .0) ev, passes-shown (suc k) n vs w a₂ b rest h e)
 
 module _ {C : Type 0} {m : Measure C} (laws : Laws m) (g : List Scope) (s : Scope) (value : ℕ → Option C) (vals : AreValues m g s value) (chosen : ℕ → Run) (bests : AreBest m g s chosen) where
   -- a pass along its way
-  pub pass-along : (k : ℕ) (end : Target) (w : List ℕ) (c : C) → IsPassWay s k end w → way-cost m value w ≡ Some c →
+  pub pass-along : (k : ℕ) (end : Target) (w : List ℕ) (c : C) → IsPassWay (s .edges) (s .facts) k end w → way-cost m value w ≡ Some c →
       IsPass g s k end (walk-along chosen s w) × (walk-cost m g s (walk-along chosen s w) ≡ c)
   pass-along k end w c h e =
       let a = along laws g s chosen bests value vals (To 0) end w c (h .0) e in
       ((a .0, subst (λ es. Meets (s .facts) k (executed (s .edges) es)) (sym (way-along chosen s w)) (h .1)), a .1)
 
   -- passes along their ways
-  pub are-passes : (k n : ℕ) (ws : List (List ℕ)) (w : List ℕ) (a b : C) → AreFrontWays m value s k ws a → n ≡ k + length ws → IsPassWay s n Leave w → way-cost m value w ≡ Some b →
+  pub are-passes : (k n : ℕ) (ws : List (List ℕ)) (w : List ℕ) (a b : C) → AreFrontWays m value s k ws a → n ≡ k + length ws → IsPassWay (s .edges) (s .facts) n Leave w → way-cost m value w ≡ Some b →
       ArePasses g s k (passes-along chosen s ws w) × (passes-cost m g s (passes-along chosen s ws w) ≡ m .join a b)
   are-passes k n [] w a b f e h q =
       let e′ : n ≡ k = omega arith in
@@ -81,7 +81,7 @@ module _ {C : Type 0} {m : Measure C} (laws : Laws m) (g : List Scope) (s : Scop
 
   -- the run along its ways
   pub run-along : (i : ℕ) → nth g i ≡ Some s → (ws : List (List ℕ)) (w : List ℕ) (a b : C) → s .least ≤ suc (length ws) → suc (length ws) ≤ s .most →
-      AreFrontWays m value s 1 ws a → IsPassWay s (suc (length ws)) Leave w → way-cost m value w ≡ Some b →
+      AreFrontWays m value s 1 ws a → IsPassWay (s .edges) (s .facts) (suc (length ws)) Leave w → way-cost m value w ≡ Some b →
       IsRun g i (run (passes-along chosen s ws w)) × (run-cost m g i (run (passes-along chosen s ws w)) ≡ m .join a b)
   run-along i there ws w a b least most f h q =
       let r = are-passes 1 (suc (length ws)) ws w a b f (omega arith) h q in
@@ -97,7 +97,7 @@ module _ {C : Type 0} {m : Measure C} (laws : Laws m) (s : Scope) (value : ℕ �
   front-both k n (w ∷ ws) vs a b (a₁, a₂, hw, ew, rest, f) e h =
       (a₁, m .join a₂ b, hw, ew, front-both (suc k) n ws vs a₂ b rest (omega arith) h, ap (λ x. m .join x b) f ∙ laws .assoc a₁ a₂ b)
 
-  pub front-same : (k j : ℕ) (w : List ℕ) (c : C) → way-cost m value w ≡ Some c → ((i : ℕ) → k ≤ i → i < k + j → IsPassWay s i Again w) → AreFrontWays m value s k (replicate j w) (power m c j)
+  pub front-same : (k j : ℕ) (w : List ℕ) (c : C) → way-cost m value w ≡ Some c → ((i : ℕ) → k ≤ i → i < k + j → IsPassWay (s .edges) (s .facts) i Again w) → AreFrontWays m value s k (replicate j w) (power m c j)
   front-same k zero w c e h = refl
   front-same k (suc j) w c e h =
       (c, power m c j, h k (omega arith) (omega arith), e, front-same (suc k) j w c e (λ i u v. h i (omega arith) (omega arith)), refl)
@@ -123,7 +123,7 @@ ranges-push s k d b [] v h r = (sym h, subst (λ x. IsRange s x b) (sym h) r, re
 ranges-push s k d b (x ∷ xs) v h r = (h .0, h .1, ranges-push s (suc (x .last)) d b xs v (h .2) r)
 
 pub fronts-push : {C : Type 0} {m : Measure C} → Laws m → (s : Scope) (value : ℕ → Option C) (d b : ℕ) (xs : List Group) (v : List ℕ) (a c : C) → AreRanges s 1 d xs → IsRange s (suc d) b →
-    AreFrontWays m value s 1 (unrolled xs) a → IsPassWay s (suc d) Again v → way-cost m value v ≡ Some c →
+    AreFrontWays m value s 1 (unrolled xs) a → IsPassWay (s .edges) (s .facts) (suc d) Again v → way-cost m value v ≡ Some c →
     AreFrontWays m value s 1 (unrolled (xs ++ (group (suc d) b v ∷ []))) (m .join a (power m c (b - d)))
 fronts-push {m = m} laws s value d b xs v a c h r f hv ev =
     let n = ranges-length s 1 d xs h in
@@ -168,7 +168,7 @@ module _ {C : Type 0} {m : Measure C} (laws : Laws m) (g : List Scope) (s : Scop
   -- the run of p passes that goes the ways of the groups
   pub group-run : (i : ℕ) → nth g i ≡ Some s → (d b p : ℕ) (xs ys : List Group) (v w : List ℕ) (a c l : C) →
       AreRanges s 1 d xs → AreFrontWays m value s 1 (unrolled xs) a → IsRange s (suc d) b → d < p → p ≤ b → s .least ≤ p → p ≤ s .most →
-      (suc d < p → IsPassWay s (suc d) Again v × (way-cost m value v ≡ Some c)) → IsPassWay s (suc d) Leave w → way-cost m value w ≡ Some l → AreLast s p d v w ys →
+      (suc d < p → IsPassWay (s .edges) (s .facts) (suc d) Again v × (way-cost m value v ≡ Some c)) → IsPassWay (s .edges) (s .facts) (suc d) Leave w → way-cost m value w ≡ Some l → AreLast s p d v w ys →
       (ps : Passes) × IsRun g i (run ps) × (run-cost m g i (run ps) ≡ m .join (m .join a (power m c (p - suc d))) l) × AreGroups s p 1 (xs ++ ys) × (ways-of ps ≡ unrolled (xs ++ ys)) ×
       ((trail : List Line) → AreShown m g trail s chosen → PassesShown g trail ps)
   group-run i there d b p xs ys v w a c l ranges front range lo hi least most hv hw el last =
@@ -177,7 +177,7 @@ module _ {C : Type 0} {m : Measure C} (laws : Laws m) (g : List Scope) (s : Scop
       let n : suc (length ws) ≡ p = simp (length-append, length-replicate) (omega arith) in
       let front′ : AreFrontWays m value s 1 ws (m .join a (power m c (p - suc d))) = front-both laws s value 1 (suc d) (unrolled xs) (replicate (p - suc d) v) a (power m c (p - suc d)) front (sym e) (same (p - suc d) (omega arith)) in
       let r = run-along laws g s value vals chosen bests i there ws w (m .join a (power m c (p - suc d))) l (omega arith) (omega arith) front′
-      (subst (λ k. IsPassWay s k Leave w) (sym n) (range-way s d b range Leave w hw p lo hi)) el in (
+      (subst (λ k. IsPassWay (s .edges) (s .facts) k Leave w) (sym n) (range-way s d b range Leave w hw p lo hi)) el in (
         passes-along chosen s ws w,
         r .0,
         r .1,

@@ -9,6 +9,7 @@ use Rattle.model.specs.declared.graph.Node.the-variants.{Block, Call}
 use Rattle.model.specs.declared.graph.Target.{Target}
 use Rattle.model.specs.declared.graph.Target.the-variants.{To, Again}
 use Rattle.model.specs.declared.graph.Edge.{Edge}
+use Rattle.model.specs.declared.graph.Fact.{Fact}
 use Rattle.std.specs.Finite.{nth}
 use Rattle.model.specs.Graph.{Scope}
 use Rattle.model.specs.Measures.{Measure}
@@ -24,8 +25,8 @@ IsWay edges from end [] = from ≡ end
 IsWay edges from end (e ∷ es) = (x : Edge) × (nth edges e ≡ Some x) × (from ≡ To (x .from)) × IsWay edges (x .to) end es
 
 -- the way is one that pass number k may go
-abbrev pub IsPassWay : Scope → ℕ → Target → List ℕ → Type 0
-IsPassWay s k end es = IsWay (s .edges) (To 0) end es × Meets (s .facts) k (executed (s .edges) es)
+abbrev pub IsPassWay : List Edge → List Fact → ℕ → Target → List ℕ → Type 0
+IsPassWay edges facts k end es = IsWay edges (To 0) end es × Meets facts k (executed edges es)
 
 -- the values of its edges, joined in their order; absent where an edge has none
 abbrev pub way-cost : {C : Type 0} → Measure C → (ℕ → Option C) → List ℕ → Option C
@@ -60,8 +61,8 @@ module _ {C : Type 0} (m : Measure C) (g : List Scope) where
   AreValues s value = (e : ℕ) (x : Edge) → nth (s .edges) e ≡ Some x → IsValue x (nth (s .nodes) (x .from)) (value e)
 
 -- what ways of pass number k with this end cost
-abbrev pub WayCost : {C : Type 0} → Measure C → (ℕ → Option C) → Scope → ℕ → Target → C → Type 0
-WayCost m value s k end c = (es : List ℕ) × IsPassWay s k end es × (way-cost m value es ≡ Some c)
+abbrev pub WayCost : {C : Type 0} → Measure C → (ℕ → Option C) → List Edge → List Fact → ℕ → Target → C → Type 0
+WayCost m value edges facts k end c = (es : List ℕ) × IsPassWay edges facts k end es × (way-cost m value es ≡ Some c)
 
 -- the value of an edge from what the called scopes cost
 abbrev pub value-from : {C : Type 0} → Measure C → (ℕ → Option C) → Edge → Option Node → Option C
@@ -102,4 +103,4 @@ passes-along chosen s (v ∷ vs) w = then (walk-along chosen s v) (passes-along 
 -- the ways are ones that the passes from number k on may go, all of them going on, and cost c together
 abbrev pub AreFrontWays : {C : Type 0} → Measure C → (ℕ → Option C) → Scope → ℕ → List (List ℕ) → C → Type 0
 AreFrontWays m value s k [] c = c ≡ m .nothing
-AreFrontWays m value s k (w ∷ ws) c = (a : _) × (b : _) × IsPassWay s k Again w × (way-cost m value w ≡ Some a) × AreFrontWays m value s (suc k) ws b × (c ≡ m .join a b)
+AreFrontWays m value s k (w ∷ ws) c = (a : _) × (b : _) × IsPassWay (s .edges) (s .facts) k Again w × (way-cost m value w ≡ Some a) × AreFrontWays m value s (suc k) ws b × (c ≡ m .join a b)
