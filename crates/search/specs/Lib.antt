@@ -1,0 +1,4 @@
+pub mod Demands
+pub mod Endings
+pub mod Exits
+pub mod Walks
