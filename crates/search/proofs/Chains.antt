@@ -19,7 +19,7 @@ use Rattle.std.proofs.shelf.Lists.{drop-all}
 use Rattle.std.proofs.shelf.Maps.{nth-past, nth-getD}
 use Rattle.model.specs.declared.graph.Edge.{Edge}
 use Rattle.search.specs.Walks.{exit-in, exit-from}
-use Rattle.search.specs.Exits.{AreExitsFrom}
+use Rattle.search.specs.Exits.{AreExitsFrom, AreFirsts, AreNexts, FirstsKept, NextsKept, same-exit}
 
 -- an element that is there is the first of the rest
 pub drop-at : {A : Type 0} (xs : List A) (i : ℕ) (x : A) → nth xs i ≡ Some x → drop i xs ≡ x ∷ drop (suc i) xs
@@ -108,7 +108,7 @@ module _ (edges : List Edge) (first next : List (Option ℕ)) (e : ℕ) (x : Edg
   first-more k h =
       ⊎-elim
       (λ q. subst (λ j. getD (set first (x .from) (Some e)) j None ≡ exit-from edges j e) q
-        (getD-set-same first (x .from) (Some e) None (omega arith) ∙ sym (exit-here edges (x .from) e x there refl)))
+      (getD-set-same first (x .from) (Some e) None (omega arith) ∙ sym (exit-here edges (x .from) e x there refl)))
       (λ q. getD-set-other first (x .from) k (Some e) None (λ z. q (sym z)) ∙ exits .0 k h ∙ sym (exit-past edges k e x there q))
       (cases-eq (x .from) k)
 
@@ -126,3 +126,29 @@ module _ (edges : List Edge) (first next : List (Option ℕ)) (e : ℕ) (x : Edg
 
   pub exits-more : AreExitsFrom edges e (set first (x .from) (Some e)) (set next e (getD first (x .from) None))
   exits-more = (first-more, next-more)
+
+-- the chains as tests, and back
+false-true : _≡_ {A = Bool} false true → ⊥
+false-true h = let z : _≡_ {A = ℕ} 0 1 = cc in omega arith
+
+exit-same : (o : Option ℕ) → same-exit o o ≡ true
+exit-same None = refl
+exit-same (Some a) = eq-eqb a a refl
+
+same-is : (o p : Option ℕ) → same-exit o p ≡ true → o ≡ p
+same-is None None h = refl
+same-is None (Some b) h = absurd (false-true h)
+same-is (Some a) None h = absurd (false-true h)
+same-is (Some a) (Some b) h = ap Some (eqb-true a b h)
+
+pub keep-firsts : (edges : List Edge) (first : List (Option ℕ)) → AreFirsts edges 0 first → FirstsKept edges first
+keep-firsts edges first h k l = subst (λ o. same-exit (getD first k None) o ≡ true) (h k l) (exit-same (getD first k None))
+
+pub keep-nexts : (edges : List Edge) (next : List (Option ℕ)) → AreNexts edges next → NextsKept edges next
+keep-nexts edges next h e x n = subst (λ o. same-exit (getD next e None) o ≡ true) (h e x n) (exit-same (getD next e None))
+
+pub kept-first : (edges : List Edge) (first : List (Option ℕ)) → FirstsKept edges first → AreFirsts edges 0 first
+kept-first edges first h k l = same-is _ _ (h k l)
+
+pub kept-next : (edges : List Edge) (next : List (Option ℕ)) → NextsKept edges next → AreNexts edges next
+kept-next edges next h e x n = same-is _ _ (h e x n)

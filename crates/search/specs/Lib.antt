@@ -1,4 +1,5 @@
 pub mod Demands
 pub mod Endings
 pub mod Exits
+pub mod Flows
 pub mod Walks

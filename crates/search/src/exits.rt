@@ -5,7 +5,7 @@ ghost use lib.ListN.{length, getD};
 ghost use Rattle.std.specs.Finite.{nth};
 ghost use Rattle.std.specs.declared.option.Option.the-variants.{Some, None};
 ghost use Rattle.model.specs.declared.graph.Edge.{Edge};
-ghost use Rattle.search.specs.Exits.{AreExits};
+ghost use Rattle.search.specs.Exits.{AreFirsts, AreNexts};
 use model::graph::Edge;
 
 // The first edge out of each node, and of each edge the next one with the same start.
@@ -18,7 +18,8 @@ pub struct Exits {
 pub fn exits_of(edges: &[Edge]) -> Exits
     requires few { ⌜ length (now edges) ≤ 96 ⌝ }
     requires starts { ⌜ ((e : ℕ) (x : Edge) → nth (now edges) e ≡ Some x → x .from < 32) ⌝ }
-    ensures { λ r. ⌜ AreExits (now (edges .entry)) (r .first) (r .next) ⌝ }
+    ensures firsts { λ r. ⌜ AreFirsts (now (edges .entry)) 0 (r .first) ⌝ }
+    ensures nexts { λ r. ⌜ AreNexts (now (edges .entry)) (r .next) ⌝ }
 {
     let mut first = [None; 32];
     let mut next = [None; 96];

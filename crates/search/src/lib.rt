@@ -1,5 +1,8 @@
 // The costliest pass through a scope, within passes that have the same facts in force.
 // An edge is known here by its start, its target and its value alone.
 mod demand;
-mod exits;
 pub mod ending;
+mod exits;
+pub mod flow;
+pub mod prepare;
+mod rows;

@@ -27,10 +27,9 @@ loop-e-again c =
     let same : c .loop-e .e ≡ suc e = omega arith in
     let there = nth-getD edges e (record { from = 0; to = To 0; effect = pos 0 }) (omega arith) in
     let first = c .loop-e .first in
-    let next = c .loop-e .next in
-    (
+    let next = c .loop-e .next in (
       simp length-set (c .loop-e .inv .0),
       simp length-set (c .loop-e .inv .1),
       exits-more edges first next e _ there (c .pre .starts e _ there) (omega (arith, c .pre .few)) (c .loop-e .inv .0) (c .loop-e .inv .1)
-      (subst (λ i. AreExitsFrom edges i first next) same (c .loop-e .inv .2)),
+          (subst (λ i. AreExitsFrom edges i first next) same (c .loop-e .inv .2)),
     )
