@@ -2,4 +2,5 @@ pub mod Demands
 pub mod Endings
 pub mod Exits
 pub mod Flows
+pub mod Tables
 pub mod Walks

@@ -6,3 +6,6 @@ mod exits;
 pub mod flow;
 pub mod prepare;
 mod rows;
+mod step;
+mod table;
+pub mod values;

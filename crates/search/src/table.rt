@@ -1,0 +1,75 @@
+// The table over the nodes, filled from the highest node down.
+ghost use mathlib.Core.Path.{_≡_};
+ghost use Prim.Native.Nat.{ℕ, _+_, _<_, _≤_};
+ghost use lib.ListN.{length, getD};
+ghost use Rattle.std.specs.declared.option.Option.the-variants.{None};
+ghost use Rattle.model.specs.declared.graph.Target.the-variants.{To};
+ghost use Rattle.model.specs.Best.{IsBest};
+ghost use Rattle.search.specs.Endings.{stop};
+ghost use Rattle.search.specs.Flows.{edges-of};
+ghost use Rattle.search.specs.Tables.{entry, offer, costlier, cost-of, OnSome, IsStep, IsEntry};
+ghost use Rattle.search.specs.Walks.{TailCost, masked};
+use crate::ending::Ending;
+use crate::flow::Flow;
+use crate::step::Step;
+use crate::values::EdgeValues;
+use model::cost::Cost;
+use model::graph::Target;
+
+// The value of an edge, if it is usable.
+fn value_of<C: Cost, V: EdgeValues<C>>(values: &V, usable: &[bool; 96], edge: usize) -> Option<C>
+    requires { ⌜ edge < 96 ⌝ }
+    ensures { λ r. ⌜ r ≡ masked (V·EdgeValues .values (now (values .entry))) (now (usable .entry)) edge ⌝ }
+{
+    if usable[edge] { values.value(edge) } else { None }
+}
+
+// The entry of a node: what the costliest walk on from it costs.
+fn entry_at<C: Cost>(table: &[C], choices: &[Option<u8>; 32], node: usize) -> Option<C>
+    requires { ⌜ (node < length (now table)) × (node < 32) ⌝ }
+    ensures { λ r. ⌜ r ≡ entry (now (table .entry)) (now (choices .entry)) node ⌝ }
+{
+    match choices[node] {
+        None => None,
+        Some(_) => {
+            let cost = table[node];
+            Some(cost)
+        }
+    }
+}
+
+// What an edge offers, once the entries of the later nodes are known.
+fn offer_of<C: Cost>(value: Option<C>, to: Target, ending: Ending, table: &[C], choices: &[Option<u8>; 32]) -> Option<C>
+    requires { ⌜ ((v : ℕ) → to ≡ To v → (v < length (now table)) × (v < 32)) ⌝ }
+    ensures { λ r. ⌜ r ≡ offer measure value to ending (now (table .entry)) (now (choices .entry)) ⌝ }
+{
+    let Some(cost) = value else {
+        return None;
+    };
+    match (to, ending) {
+        (Target::To(v), _) => {
+            let rest = entry_at(table, choices, v as usize)?;
+            Some(cost.join(rest))
+        }
+        (Target::Again, Ending::Again) => Some(cost),
+        (Target::Leave, Ending::Leave) => Some(cost),
+        _ => None,
+    }
+}
+
+// The costlier of the best so far and what an edge offers.
+fn costlier_of<C: Cost>(best: Option<Step<C>>, offered: Option<C>, edge: u8) -> Option<Step<C>>
+    ensures { λ r. ⌜ r ≡ costlier measure best offered edge ⌝ }
+{
+    match (best, offered) {
+        (_, None) => best,
+        (None, Some(cost)) => Some(Step { cost, edge }),
+        (Some(step), Some(cost)) => {
+            if cost.at_most(step.cost) {
+                best
+            } else {
+                Some(Step { cost, edge })
+            }
+        }
+    }
+}
