@@ -152,3 +152,8 @@ kept-first edges first h k l = same-is _ _ (h k l)
 
 pub kept-next : (edges : List Edge) (next : List (Option ℕ)) → NextsKept edges next → AreNexts edges next
 kept-next edges next h e x n = same-is _ _ (h e x n)
+
+-- how many numbers below n are left from the next edge on
+abbrev pub past : ℕ → Option ℕ → ℕ
+past n None = 0
+past n (Some e) = n - e

@@ -1,3 +1,4 @@
 mod Chains
 mod Forwards
+mod Held
 mod Steps

@@ -21,7 +21,11 @@ fn value_of<C: Cost, V: EdgeValues<C>>(values: &V, usable: &[bool; 96], edge: us
     requires { ⌜ edge < 96 ⌝ }
     ensures { λ r. ⌜ r ≡ masked (V·EdgeValues .values (now (values .entry))) (now (usable .entry)) edge ⌝ }
 {
-    if usable[edge] { values.value(edge) } else { None }
+    if usable[edge] {
+        values.value(edge)
+    } else {
+        None
+    }
 }
 
 // The entry of a node: what the costliest walk on from it costs.
@@ -39,7 +43,13 @@ fn entry_at<C: Cost>(table: &[C], choices: &[Option<u8>; 32], node: usize) -> Op
 }
 
 // What an edge offers, once the entries of the later nodes are known.
-fn offer_of<C: Cost>(value: Option<C>, to: Target, ending: Ending, table: &[C], choices: &[Option<u8>; 32]) -> Option<C>
+fn offer_of<C: Cost>(
+    value: Option<C>,
+    to: Target,
+    ending: Ending,
+    table: &[C],
+    choices: &[Option<u8>; 32],
+) -> Option<C>
     requires { ⌜ ((v : ℕ) → to ≡ To v → (v < length (now table)) × (v < 32)) ⌝ }
     ensures { λ r. ⌜ r ≡ offer measure value to ending (now (table .entry)) (now (choices .entry)) ⌝ }
 {
@@ -72,4 +82,32 @@ fn costlier_of<C: Cost>(best: Option<Step<C>>, offered: Option<C>, edge: u8) -> 
             }
         }
     }
+}
+
+// The costliest walk on from a node, once the entries of the later nodes are known.
+fn best_from<C: Cost, V: EdgeValues<C>>(
+    flow: &Flow,
+    values: &V,
+    usable: &[bool; 96],
+    ending: Ending,
+    node: usize,
+    table: &[C],
+    choices: &[Option<u8>; 32],
+) -> Option<Step<C>>
+    requires room { ⌜ 32 ≤ length (now table) ⌝ }
+    requires low { ⌜ node < 32 ⌝ }
+    requires above { ⌜ ((v : ℕ) → node < v → v < now flow .nodes → IsBest measure (TailCost measure (masked (V·EdgeValues .values (now values)) (now usable)) (edges-of (now flow)) (stop ending) (To v)) (entry (now table) (now choices) v)) ⌝ }
+    ensures best { λ r. ⌜ IsBest measure (TailCost measure (masked (V·EdgeValues .values (now (values .entry))) (now (usable .entry))) (edges-of (now (flow .entry))) (stop ending) (To node)) (cost-of r) ⌝ }
+    ensures linked { λ r. ⌜ OnSome (IsStep measure (masked (V·EdgeValues .values (now (values .entry))) (now (usable .entry))) (edges-of (now (flow .entry))) ending (now (table .entry)) (now (choices .entry)) node) r ⌝ }
+{
+    let mut best = None;
+    let mut exit = flow.exits.first[node];
+    while let Some(e) = exit {
+        let edge = e as usize;
+        let to = flow.edges.items[edge].to;
+        let value = value_of(values, usable, edge);
+        best = costlier_of(best, offer_of(value, to, ending, table, choices), e);
+        exit = flow.exits.next[edge];
+    }
+    best
 }
