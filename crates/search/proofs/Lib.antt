@@ -1,4 +1,5 @@
 mod Chains
+mod Fills
 mod Forwards
 mod Held
 mod Steps

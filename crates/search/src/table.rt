@@ -111,3 +111,27 @@ fn best_from<C: Cost, V: EdgeValues<C>>(
     }
     best
 }
+
+// Fills the table and gives the first edge of the costliest walk on from each node.
+pub fn fill<C: Cost, V: EdgeValues<C>>(
+    flow: &Flow,
+    values: &V,
+    usable: &[bool; 96],
+    ending: Ending,
+    table: &mut [C],
+) -> [Option<u8>; 32]
+    requires { ⌜ 32 ≤ length (now table) ⌝ }
+    ensures { λ r. ⌜ ((k : ℕ) → k < now (flow .entry) .nodes → IsEntry measure (masked (V·EdgeValues .values (now (values .entry))) (now (usable .entry))) (edges-of (now (flow .entry))) ending (now (table .exit)) r k) ⌝ }
+{
+    let mut choices = [None; 32];
+    for k in (0..flow.nodes).rev() {
+        match best_from(flow, values, usable, ending, k, table, &choices) {
+            None => choices[k] = None,
+            Some(step) => {
+                table[k] = step.cost;
+                choices[k] = Some(step.edge);
+            }
+        }
+    }
+    choices
+}
