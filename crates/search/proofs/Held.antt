@@ -4,7 +4,8 @@ use mathlib.Core.List.{List, [], _∷_}
 use Prim.Native.Nat.{ℕ, zero, suc, _+_, _≤_, _<_}
 use native.Mathlib.Omega.{arith}
 use native.Mathlib.Numerals.{add-one}
-use lib.ListN.{length, take, getD}
+use lib.ListN.{length, take, getD, length-take}
+use Rattle.std.proofs.shelf.Maps.{nth-past}
 use Rattle.std.specs.Finite.{nth}
 use Rattle.std.specs.declared.option.Option.{Option}
 use Rattle.std.specs.declared.option.Option.the-variants.{Some, None}
@@ -33,6 +34,15 @@ taken-at zero xs e x d h = absurd (none-some h)
 taken-at (suc n) [] e x d h = absurd (none-some h)
 taken-at (suc n) (y ∷ ys) zero x d h = (omega arith, some-same h)
 taken-at (suc n) (y ∷ ys) (suc e) x d h = let r = taken-at n ys e x d h in (omega (arith, r .0), r .1)
+
+pub taken-read : {A : Type 0} (n : ℕ) (xs : List A) (i : ℕ) (d : A) → i < n → i < length xs → nth (take n xs) i ≡ Some (getD xs i d)
+taken-read zero xs i d h l = absurd (omega arith)
+taken-read (suc n) [] i d h l = absurd (omega arith)
+taken-read (suc n) (x ∷ xs) zero d h l = refl
+taken-read (suc n) (x ∷ xs) (suc i) d h l = taken-read n xs i d (omega arith) (omega arith)
+
+pub taken-past : {A : Type 0} (n : ℕ) (xs : List A) (i : ℕ) → n ≤ i → nth (take n xs) i ≡ None
+taken-past n xs i h = nth-past (take n xs) i (simp length-take (omega arith))
 
 -- the next edge out of node k from number i on
 pub record IsTurn (f : Flow) (k i e : ℕ) : Type 0 where

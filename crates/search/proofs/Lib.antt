@@ -1,5 +1,6 @@
 mod Chains
 mod Fills
+mod Followed
 mod Forwards
 mod Held
 mod Steps

@@ -4,3 +4,4 @@ pub mod Exits
 pub mod Flows
 pub mod Tables
 pub mod Walks
+pub mod Ways
