@@ -4,3 +4,4 @@ mod Followed
 mod Forwards
 mod Held
 mod Steps
+mod Walked
