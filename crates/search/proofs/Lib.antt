@@ -4,5 +4,6 @@ mod Followed
 mod Forwards
 mod Granted
 mod Held
+mod Splits
 mod Steps
 mod Walked
