@@ -4,6 +4,7 @@ mod Followed
 mod Forwards
 mod Granted
 mod Held
+mod Lefts
 mod Splits
 mod Steps
 mod Walked

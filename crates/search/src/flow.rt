@@ -2,7 +2,7 @@
 ghost use mathlib.Core.Path.{_≡_};
 ghost use mathlib.Core.Bool.{true};
 ghost use Prim.Native.Nat.{_≤_};
-ghost use lib.ListN.{take};
+ghost use lib.ListN.{length, take};
 ghost use Rattle.search.specs.Exits.{FirstsKept, NextsKept};
 ghost use Rattle.search.specs.Walks.{all-forward};
 use crate::exits::Exits;
@@ -16,6 +16,8 @@ pub struct Flow {
     pub(crate) edges: EdgeRow,
     pub(crate) facts: FactRow,
     pub(crate) exits: Exits,
+    ghost wideedges: { length (edges .items) ≡ 96 },
+    ghost widefacts: { length (facts .items) ≡ 4 },
     ghost fewnodes: { nodes ≤ 32 },
     ghost fewedges: { edges .len ≤ 96 },
     ghost fewfacts: { facts .len ≤ 4 },

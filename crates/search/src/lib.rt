@@ -9,5 +9,6 @@ pub mod prepare;
 mod rows;
 mod step;
 mod table;
+mod usable;
 pub mod values;
 pub mod way;
