@@ -123,7 +123,7 @@ reaches-later edges m fwd n end (e ∷ es) (To v) k up w (inr a) =
     let r = reaches-later edges m fwd n end es (x .to) v (λ u q. let f = fwd e x (w .1) .1 u q in omega (arith, f .0)) (w .3) (subst (Among n) (reached-first edges e x es (w .1)) a) in
     omega (arith, l, r)
 
-to-stop : (end : Ending) (v : ℕ) → To v ≡ stop end → ⊥
+pub to-stop : (end : Ending) (v : ℕ) → To v ≡ stop end → ⊥
 to-stop Repeat v q = again-to v (sym q)
 to-stop Exit v q = leave-to v (sym q)
 

@@ -5,6 +5,7 @@ mod Forwards
 mod Granted
 mod Held
 mod Lefts
+mod Rounded
 mod Splits
 mod Steps
 mod Walked

@@ -2,6 +2,7 @@ pub mod Demands
 pub mod Endings
 pub mod Exits
 pub mod Flows
+pub mod Found
 pub mod Rounds
 pub mod Tables
 pub mod Walks

@@ -1,10 +1,12 @@
 // The costliest pass through a scope, within passes that have the same facts in force.
 // An edge is known here by its start, its target and its value alone.
+pub mod costliest;
 mod demand;
 pub mod ending;
 mod exits;
 pub mod flow;
 mod follow;
+pub mod found;
 pub mod prepare;
 mod rows;
 mod step;

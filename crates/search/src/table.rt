@@ -29,7 +29,7 @@ fn value_of<C: Cost, V: EdgeValues<C>>(values: &V, usable: &[bool; 96], edge: us
 }
 
 // The entry of a node: what the costliest walk on from it costs.
-fn entry_at<C: Cost>(table: &[C], choices: &[Option<u8>; 32], node: usize) -> Option<C>
+pub fn entry_at<C: Cost>(table: &[C], choices: &[Option<u8>; 32], node: usize) -> Option<C>
     requires { ⌜ (node < length (now table)) × (node < 32) ⌝ }
     ensures { λ r. ⌜ r ≡ entry (now (table .entry)) (now (choices .entry)) node ⌝ }
 {
