@@ -77,8 +77,7 @@ avoids edges n from end (e ∷ es) (x, there, starts, w) u a =
 uses-avoid : (edges : List Edge) (n : ℕ) → (n ≡ 0 → ⊥) → (from end : Target) (es : List ℕ) → IsWay edges from end es → (Among n (reached edges es) → ⊥) → Uses (allows (Avoid n)) edges es
 uses-avoid edges n some from end [] w out = tt
 uses-avoid edges n some from end (e ∷ es) (x, there, starts, w) out =
-    let out′ : Among n (reached-at (x .to) ++ reached edges es) → ⊥ = λ a. out (subst (Among n) (sym (reached-first edges e x es there)) a) in
-    (
+    let out′ : Among n (reached-at (x .to) ++ reached edges es) → ⊥ = λ a. out (subst (Among n) (sym (reached-first edges e x es there)) a) in (
       λ y q. subst (λ z. allows (Avoid n) z ≡ true) (some-same (sym there ∙ q)) (step-avoid n x some (λ a. out′ (among-left n (reached-at (x .to)) (reached edges es) a))),
       uses-avoid edges n some (x .to) end es w (λ a. out′ (among-right n (reached-at (x .to)) (reached edges es) a)),
     )
@@ -149,11 +148,10 @@ visits edges n end (e ∷ es) (To v) (x, there, starts, w) low u =
 -- a way that executes the node passes it by nowhere
 uses-visit : (edges : List Edge) (m : ℕ) → Forward edges m → (n : ℕ) (end : Target) (es : List ℕ) (t : Target) → IsWay edges t end es → ((v : ℕ) → t ≡ To v → (n ≤ v) ⊎ Among n (reached edges es)) → Uses (allows (Visit n)) edges es
 uses-visit edges m fwd n end [] t w h = tt
-uses-visit edges m fwd n end (e ∷ es) t (x, there, starts, w) h =
-    (
-      λ y q. subst (λ z. allows (Visit n) z ≡ true) (some-same (sym there ∙ q)) (step-visit n x (λ l. first l (x .to) refl)),
-      uses-visit edges m fwd n end es (x .to) w (λ v q. rest v q),
-    )
+uses-visit edges m fwd n end (e ∷ es) t (x, there, starts, w) h = (
+  λ y q. subst (λ z. allows (Visit n) z ≡ true) (some-same (sym there ∙ q)) (step-visit n x (λ l. first l (x .to) refl)),
+  uses-visit edges m fwd n end es (x .to) w (λ v q. rest v q),
+)
   where
     on : (n ≤ x .from) ⊎ Among n (reached-at (x .to) ++ reached edges es)
     on = ⊎-elim inl (λ a. inr (subst (Among n) (reached-first edges e x es there) a)) (h (x .from) starts)

@@ -90,8 +90,8 @@ meets-demand : (f : Fact) (k : ℕ) (ns : List ℕ) → (f .first ≤ k → k �
 meets-demand f k ns h =
     ⊎-elim (λ l. (false, rw (lt-ltb k (f .first) l) tt, or-true (splits f k)))
     (λ low. ⊎-elim (λ l. (false, rw (lt-ltb (f .last) k l) (or-free (ltb k (f .first))), or-true (splits f k)))
-      (λ high. let r = obeys-asks (f .constraint) ns (h low high) in (r .0, subst (λ d. Grants d ns) (sym (in-force f k (r .0) low high)) (r .1), rw (le-ltb k (f .first) low, le-ltb (f .last) k high) (r .2)))
-      (cases-lt (f .last) k))
+    (λ high. let r = obeys-asks (f .constraint) ns (h low high) in (r .0, subst (λ d. Grants d ns) (sym (in-force f k (r .0) low high)) (r .1), rw (le-ltb k (f .first) low, le-ltb (f .last) k high) (r .2)))
+    (cases-lt (f .last) k))
     (cases-lt k (f .first))
   where
     or-true : (b : Bool) → (b || true) ≡ true
@@ -126,8 +126,7 @@ meets-round (f ∷ fs) k ns h =
     let d = meets-demand f k ns (h .0) in
     let b = d .0 in
     let r = t .0 in
-    let small = digit-small b in
-    (
+    let small = digit-small b in (
       2 * r + digit b,
       rw pow-suc (omega (arith, t .1, small)),
       rw (odd-digit b r, half-digit b r, d .2) (t .2),
@@ -159,8 +158,7 @@ module _ {C : Type 0} (m : Measure C) (value : ℕ → Option C) (edges : List E
     masked-uses from end (e ∷ es) c (x, there, starts, w) q =
         let j = joined-both m (masked value usable e) (way-cost m (masked value usable) es) c q in
         let g = gate-some (getD usable e false) (value e) (j .0) (j .2) in
-        let t = masked-uses (x .to) end es (j .1) w (j .3) in
-        (
+        let t = masked-uses (x .to) end es (j .1) w (j .3) in (
           (λ y p. subst (λ z. allows-all (demands facts k r) z ≡ true) (some-same (sym there ∙ p)) (sym (right e x there) ∙ g .0), t .0),
           ap₂ (joined m) (g .1) (t .1) ∙ ap Some (j .4),
         )

@@ -52,11 +52,14 @@ module _ {C : Type 0} {m : Measure C} (laws : Laws m) (value : ℕ → Option C)
       let x = l .2 .0 in
       let n = l .2 .1 in
       let s = l .2 .2 in
-      let off = l .2 .3 in
-      (x, n, λ v t.
-        let w = flow-forward f e x n .1 v t in
-        let o = offer-to m (value e) v end table choices (l .0) (subst (λ p. offer m (value e) p end table choices ≡ Some (l .0)) t off) in
-        (omega (arith, w .0), w .1, kept-there (getD choices v None) (nth table v) (o .1) (o .3)))
+      let off = l .2 .3 in (
+        x,
+        n,
+        λ v t.
+            let w = flow-forward f e x n .1 v t in
+            let o = offer-to m (value e) v end table choices (l .0) (subst (λ p. offer m (value e) p end table choices ≡ Some (l .0)) t off) in
+            (omega (arith, w .0), w .1, kept-there (getD choices v None) (nth table v) (o .1) (o .3)),
+      )
 
   chosen-cost : (k e : ℕ) (c : C) → getD choices k None ≡ Some e → entry table choices k ≡ Some c → nth table k ≡ Some c
   chosen-cost k e c q h = sym (ap (λ o. kept-by o (nth table k)) q) ∙ h
@@ -76,8 +79,7 @@ module _ {C : Type 0} {m : Measure C} (laws : Laws m) (value : ℕ → Option C)
 
       ended : (t : Target) → x .to ≡ t → ((v : ℕ) → t ≡ To v → ⊥) → offer m (value e) (x .to) end table choices ≡ Some c → es ≡ [] → x .from ≡ k → Goal
       ended t p away off none starts =
-          let o = offer-end m (value e) (x .to) end table choices c (λ v q. away v (sym p ∙ q)) off in
-          (
+          let o = offer-end m (value e) (x .to) end table choices c (λ v q. away v (sym p ∙ q)) off in (
             (x, there, ap To (sym starts), subst (λ ws. IsWay (edges-of f) (x .to) (stop end) ws) (sym none) (o .1)),
             ap₂ (joined m) (o .0) (ap (way-cost m value) none) ∙ ap Some (laws .right c),
           )
@@ -86,8 +88,7 @@ module _ {C : Type 0} {m : Measure C} (laws : Laws m) (value : ℕ → Option C)
           ((v : ℕ) → x .to ≡ To v → Follows (edges-of f) choices (To v) es → (b : C) → entry table choices v ≡ Some b → IsWay (edges-of f) (To v) (stop end) es × (way-cost m value es ≡ Some b)) → Goal
       go (To v) p off rest starts more =
           let o = offer-to m (value e) v end table choices c (subst (λ q. offer m (value e) q end table choices ≡ Some c) p off) in
-          let r = more v p rest (o .1) (o .3) in
-          (
+          let r = more v p rest (o .1) (o .3) in (
             (x, there, ap To (sym starts), subst (λ q. IsWay (edges-of f) q (stop end) es) (sym p) (r .0)),
             ap₂ (joined m) (o .2) (r .1) ∙ ap Some (o .4),
           )

@@ -37,6 +37,11 @@ module _ {C : Type 0} (m : Measure C) (value : ℕ → Option C) (edges : List E
     pub shown : OnSome (IsShown (way-edges (x .way))) (x .cost)
     pub blank : x .cost ≡ None → way-edges (x .way) ≡ []
 
+-- the search refuses a table of fewer than 32 places, which it leaves as it is, and else gives the costliest way
+abbrev pub Searched : {C : Type 0} → Measure C → (ℕ → Option C) → List Edge → List Fact → ℕ → Ending → List C → List C → Option (Costliest C) → Type 0
+Searched m value edges facts k end table table′ None = (length table < 32) × (table′ ≡ table)
+Searched m value edges facts k end table table′ (Some x) = (32 ≤ length table) × IsCostliest m value edges facts k end x
+
 -- the costlier of two
 abbrev pub costlier-by : {C : Type 0} → Measure C → Option C → Option C → Costliest C → Costliest C → Costliest C
 costlier-by m a None x y = x

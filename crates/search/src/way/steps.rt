@@ -12,7 +12,10 @@ impl Way {
     pub fn new() -> Way
         ensures { λ r. ⌜ way-edges r ≡ [] ⌝ }
     {
-        Way { items: [0; 32], len: 0 }
+        Way {
+            items: [0; 32],
+            len: 0,
+        }
     }
 
     // How many edges it has.
@@ -26,7 +29,11 @@ impl Way {
     pub fn edge(&self, i: usize) -> Option<u8>
         ensures { λ r. ⌜ r ≡ nth (way-edges (now (self .entry))) i ⌝ }
     {
-        if i < self.len { Some(self.items[i]) } else { None }
+        if i < self.len {
+            Some(self.items[i])
+        } else {
+            None
+        }
     }
 
     // One edge more.
