@@ -7,5 +7,6 @@ mod Held
 mod Lefts
 mod Rounded
 mod Splits
+mod Squares
 mod Steps
 mod Walked

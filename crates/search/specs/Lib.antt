@@ -3,6 +3,7 @@ pub mod Endings
 pub mod Exits
 pub mod Flows
 pub mod Found
+pub mod Powers
 pub mod Rounds
 pub mod Tables
 pub mod Walks

@@ -7,6 +7,7 @@ mod exits;
 pub mod flow;
 mod follow;
 pub mod found;
+pub mod power;
 pub mod prepare;
 mod rows;
 mod step;
