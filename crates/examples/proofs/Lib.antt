@@ -1,0 +1,4 @@
+pub mod Sets
+pub mod Facts
+pub mod Listing
+pub mod Checks

@@ -1,0 +1,108 @@
+-- The worked graphs, and what is claimed of each.
+use mathlib.Core.List.{List, [], _∷_}
+use Prim.Native.Nat.{ℕ}
+use lib.IntN.{ℤ, pos, negsuc}
+use Rattle.model.specs.declared.graph.Node.{Node}
+use Rattle.model.specs.declared.graph.Node.the-variants.{Block, Call}
+use Rattle.model.specs.declared.graph.Target.{Target}
+use Rattle.model.specs.declared.graph.Target.the-variants.{To, Again, Leave}
+use Rattle.model.specs.declared.graph.Edge.{Edge}
+use Rattle.model.specs.declared.graph.Constraint.{Constraint}
+use Rattle.model.specs.declared.graph.Constraint.the-variants.{Bar, Must, Pair}
+use Rattle.model.specs.declared.graph.Fact.{Fact}
+use Rattle.model.specs.Graph.{Scope}
+use Rattle.model.specs.Runs.{Run, IsRun, IsBound}
+use Rattle.measures.specs.Meanings.{cycles, stack, that-many}
+use Rattle.examples.specs.declared.claims.Claim.{Claim}
+use Rattle.examples.specs.declared.claims.Claim.the-variants.{Bounds, NoRun}
+
+abbrev edge : ℕ → Target → ℤ → Edge
+edge from to effect = record { from = from; to = to; effect = effect }
+
+abbrev fact : Constraint → ℕ → ℕ → Fact
+fact constraint first last = record { constraint = constraint; first = first; last = last }
+
+-- a loop of four blocks, with a costly branch over node 1 and a cheap one over node 2
+abbrev branching : ℕ → ℕ → List Fact → Scope
+branching least most facts = record {
+  least = least;
+  most = most;
+  nodes = Block 5 8 ∷ Block 10 40 ∷ Block 3 16 ∷ Block 2 8 ∷ [];
+  edges = edge 0 (To 1) (negsuc 1) ∷ edge 0 (To 2) (pos 0) ∷ edge 1 (To 3) (negsuc 0) ∷ edge 2 (To 3) (pos 0) ∷ edge 3 Again (negsuc 0) ∷ edge 3 Leave (pos 0) ∷ [];
+  facts = facts;
+}
+
+-- the costly way out is barred in the last pass
+abbrev early-exit : Scope
+early-exit = record {
+  least = 1;
+  most = 3;
+  nodes = Block 1 0 ∷ Block 100 0 ∷ [];
+  edges = edge 0 Again (pos 0) ∷ edge 0 (To 1) (pos 0) ∷ edge 1 Leave (pos 0) ∷ edge 0 Leave (pos 0) ∷ [];
+  facts = fact (Bar 1) 3 3 ∷ [];
+}
+
+-- a node that is reached by a short way and by a longer, costlier one
+abbrev detour : Scope
+detour = record {
+  least = 1;
+  most = 1;
+  nodes = Block 1 0 ∷ Block 10 0 ∷ Block 10 0 ∷ Block 1 0 ∷ [];
+  edges = edge 0 (To 3) (pos 0) ∷ edge 0 (To 1) (pos 0) ∷ edge 1 (To 2) (pos 0) ∷ edge 2 (To 3) (pos 0) ∷ edge 3 Leave (pos 0) ∷ [];
+  facts = [];
+}
+
+-- a block, and then a call of scope 1
+abbrev caller : Scope
+caller = record {
+  least = 1;
+  most = 1;
+  nodes = Block 4 24 ∷ Call 1 ∷ [];
+  edges = edge 0 (To 1) (negsuc 0) ∷ edge 1 Leave (pos 2) ∷ [];
+  facts = [];
+}
+
+-- a run that costs nothing
+abbrev free : Scope
+free = record { least = 1; most = 1; nodes = Block 0 0 ∷ []; edges = edge 0 Leave (pos 0) ∷ []; facts = [] }
+
+abbrev empty : Scope
+empty = record { least = 1; most = 1; nodes = []; edges = []; facts = [] }
+
+pub record Example : Type 0 where
+  pub graph : List Scope
+  pub claim : Claim
+
+abbrev on : List Scope → Claim → Example
+on graph claim = record { graph = graph; claim = claim }
+
+abbrev bounds : ℕ → ℕ → Claim
+bounds c k = Bounds c k
+
+abbrev pub examples : List Example
+examples =
+    on (branching 1 4 [] ∷ []) (bounds 53 40)
+    ∷ on (branching 1 1 [] ∷ []) (bounds 14 40)
+    ∷ on (branching 1 4 (fact (Bar 1) 1 2 ∷ []) ∷ []) (bounds 45 40)
+    ∷ on (branching 1 4 (fact (Must 2) 1 4 ∷ []) ∷ []) (bounds 37 16)
+    ∷ on (branching 1 4 (fact (Pair 1 3) 4 4 ∷ []) ∷ []) (bounds 49 40)
+    ∷ on (branching 1 4 (fact (Bar 3) 2 4 ∷ []) ∷ []) (bounds 14 40)
+    ∷ on (branching 2 4 (fact (Bar 3) 2 4 ∷ []) ∷ []) NoRun
+    ∷ on (early-exit ∷ []) (bounds 102 0)
+    ∷ on (detour ∷ []) (bounds 22 0)
+    ∷ on (caller ∷ branching 1 4 [] ∷ []) (bounds 58 40)
+    ∷ on (free ∷ []) (bounds 0 0)
+    ∷ on (empty ∷ []) NoRun
+    ∷ []
+
+-- what a claim says of a graph: the bound in each measure, or that there is no run
+abbrev pub Right : List Scope → Claim → Type 0
+Right g (Bounds c k) = IsBound cycles g 0 (that-many c) × IsBound stack g 0 (record { bytes = k })
+Right g NoRun = (r : Run) → IsRun g 0 r → ⊥
+
+abbrev pub All-right : List Example → Type 0
+All-right [] = Unit {0}
+All-right (x ∷ xs) = Right (x .graph) (x .claim) × All-right xs
+
+abbrev pub Every-example : Type 0
+Every-example = All-right examples
