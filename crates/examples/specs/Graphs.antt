@@ -13,8 +13,8 @@ use Rattle.model.specs.declared.graph.Fact.{Fact}
 use Rattle.model.specs.Graph.{Scope}
 use Rattle.model.specs.Runs.{Run, IsRun, IsBound}
 use Rattle.measures.specs.Meanings.{cycles, stack, that-many}
-use Rattle.examples.specs.declared.claims.Claim.{Claim}
-use Rattle.examples.specs.declared.claims.Claim.the-variants.{Bounds, NoRun}
+use Rattle.examples.specs.declared.claim.Claim.{Claim}
+use Rattle.examples.specs.declared.claim.Claim.the-variants.{Bounds, NoRun}
 
 abbrev edge : ℕ → Target → ℤ → Edge
 edge from to effect = record { from = from; to = to; effect = effect }

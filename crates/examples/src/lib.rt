@@ -1,2 +1,5 @@
-// Worked graphs, with what is claimed of each and proved of the definitions of runs, costs and bounds.
+// Worked graphs, with what is claimed of each and proved of the definitions of runs, costs and
+// bounds.
+pub mod claim;
 pub mod claims;
+pub mod laws;
