@@ -11,8 +11,8 @@ use Rattle.model.specs.Measures.{Measure, Laws}
 use Rattle.model.specs.Runs.{Run, IsRun, IsBound, run-cost}
 use Rattle.measures.specs.Meanings.{cycles, stack, that-many}
 use Rattle.measures.specs.Kept.{cycles-laws, stack-laws}
-use Rattle.examples.specs.declared.claim.Claim.{Claim}
-use Rattle.examples.specs.declared.claim.Claim.the-variants.{Bounds, NoRun}
+use Rattle.examples.specs.declared.claims.Claim.{Claim}
+use Rattle.examples.specs.declared.claims.Claim.the-variants.{Bounds, NoRun}
 use Rattle.examples.specs.Graphs.{Right, Example, All-right, Every-example, examples}
 use Rattle.examples.proofs.Sets.{In, Lists, each, each-in, some, some-in}
 use Rattle.examples.proofs.Listing.{runs, covered, runs-list}

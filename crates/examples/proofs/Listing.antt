@@ -132,9 +132,9 @@ module _ (g : List Scope) (s : Scope) (runs-of : ℕ → List Run) (called : (n 
       ⊎-elim
       (λ u. let t = map-in final ps (allowed runs-of s k Leave) u in subst P (sym (t .2)) (omega arith, allowed-list k Leave .sound (t .0) (t .1)))
       (λ u. let t = joined-in more ps (allowed runs-of s k Again) u in
-        let v = map-in (then (t .0)) ps (passes runs-of s f (suc k)) (t .2) in
-        let rest = passes-sound f (suc k) (v .0) (v .1) in
-        subst P (sym (v .2)) (omega (arith, rest .0), (allowed-list k Again .sound (t .0) (t .1), rest .1)))
+      let v = map-in (then (t .0)) ps (passes runs-of s f (suc k)) (t .2) in
+      let rest = passes-sound f (suc k) (v .0) (v .1) in
+      subst P (sym (v .2)) (omega (arith, rest .0), (allowed-list k Again .sound (t .0) (t .1), rest .1)))
       (in-either ps (map final (allowed runs-of s k Leave)) (joined more (allowed runs-of s k Again)) h)
 
   passes-complete : (f k : ℕ) (ps : Passes) → count ps ≤ f → ArePasses g s k ps → In ps (passes runs-of s f k)

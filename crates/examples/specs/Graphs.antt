@@ -13,8 +13,8 @@ use Rattle.model.specs.declared.graph.Fact.{Fact}
 use Rattle.model.specs.Graph.{Scope}
 use Rattle.model.specs.Runs.{Run, IsRun, IsBound}
 use Rattle.measures.specs.Meanings.{cycles, stack, that-many}
-use Rattle.examples.specs.declared.claim.Claim.{Claim}
-use Rattle.examples.specs.declared.claim.Claim.the-variants.{Bounds, NoRun}
+use Rattle.examples.specs.declared.claims.Claim.{Claim}
+use Rattle.examples.specs.declared.claims.Claim.the-variants.{Bounds, NoRun}
 
 abbrev edge : ℕ → Target → ℤ → Edge
 edge from to effect = record { from = from; to = to; effect = effect }
@@ -76,22 +76,19 @@ pub record Example : Type 0 where
 abbrev on : List Scope → Claim → Example
 on graph claim = record { graph = graph; claim = claim }
 
-abbrev bounds : ℕ → ℕ → Claim
-bounds c k = Bounds c k
-
 abbrev pub examples : List Example
 examples =
-    on (branching 1 4 [] ∷ []) (bounds 53 40)
-    ∷ on (branching 1 1 [] ∷ []) (bounds 14 40)
-    ∷ on (branching 1 4 (fact (Bar 1) 1 2 ∷ []) ∷ []) (bounds 45 40)
-    ∷ on (branching 1 4 (fact (Must 2) 1 4 ∷ []) ∷ []) (bounds 37 16)
-    ∷ on (branching 1 4 (fact (Pair 1 3) 4 4 ∷ []) ∷ []) (bounds 49 40)
-    ∷ on (branching 1 4 (fact (Bar 3) 2 4 ∷ []) ∷ []) (bounds 14 40)
+    on (branching 1 4 [] ∷ []) (Bounds 53 40)
+    ∷ on (branching 1 1 [] ∷ []) (Bounds 14 40)
+    ∷ on (branching 1 4 (fact (Bar 1) 1 2 ∷ []) ∷ []) (Bounds 45 40)
+    ∷ on (branching 1 4 (fact (Must 2) 1 4 ∷ []) ∷ []) (Bounds 37 16)
+    ∷ on (branching 1 4 (fact (Pair 1 3) 4 4 ∷ []) ∷ []) (Bounds 49 40)
+    ∷ on (branching 1 4 (fact (Bar 3) 2 4 ∷ []) ∷ []) (Bounds 14 40)
     ∷ on (branching 2 4 (fact (Bar 3) 2 4 ∷ []) ∷ []) NoRun
-    ∷ on (early-exit ∷ []) (bounds 102 0)
-    ∷ on (detour ∷ []) (bounds 22 0)
-    ∷ on (caller ∷ branching 1 4 [] ∷ []) (bounds 58 40)
-    ∷ on (free ∷ []) (bounds 0 0)
+    ∷ on (early-exit ∷ []) (Bounds 102 0)
+    ∷ on (detour ∷ []) (Bounds 22 0)
+    ∷ on (caller ∷ branching 1 4 [] ∷ []) (Bounds 58 40)
+    ∷ on (free ∷ []) (Bounds 0 0)
     ∷ on (empty ∷ []) NoRun
     ∷ []
 

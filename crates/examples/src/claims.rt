@@ -2,23 +2,34 @@
 ghost use mathlib.Core.Path.{_≡_};
 ghost use mathlib.Core.List.{map};
 ghost use Rattle.examples.specs.Graphs.{examples, Every-example};
-use crate::claim::Claim;
+
+// What is claimed of a graph.
+#[derive(Clone, Copy, PartialEq, Eq, Debug)]
+pub enum Claim {
+    // the bound of scope 0 in cycles, and that in bytes of stack
+    Bounds(u64, u16),
+    // scope 0 has no run
+    NoRun,
+}
 
 fn noted() -> [Claim; 12]
     ensures { λ r. ⌜ r ≡ map (λ x. x .claim) examples ⌝ }
 {
     [
-        Claim::Bounds { cycles: 53, stack: 40 },
-        Claim::Bounds { cycles: 14, stack: 40 },
-        Claim::Bounds { cycles: 45, stack: 40 },
-        Claim::Bounds { cycles: 37, stack: 16 },
-        Claim::Bounds { cycles: 49, stack: 40 },
-        Claim::Bounds { cycles: 14, stack: 40 },
+        // the branching loop: 1 to 4 passes, and one pass
+        Claim::Bounds(53, 40),
+        Claim::Bounds(14, 40),
+        // the same, with one fact each
+        Claim::Bounds(45, 40),
+        Claim::Bounds(37, 16),
+        Claim::Bounds(49, 40),
+        Claim::Bounds(14, 40),
         Claim::NoRun,
-        Claim::Bounds { cycles: 102, stack: 0 },
-        Claim::Bounds { cycles: 22, stack: 0 },
-        Claim::Bounds { cycles: 58, stack: 40 },
-        Claim::Bounds { cycles: 0, stack: 0 },
+        // the early exit, the detour, the call of the loop, the free run, and no node
+        Claim::Bounds(102, 0),
+        Claim::Bounds(22, 0),
+        Claim::Bounds(58, 40),
+        Claim::Bounds(0, 0),
         Claim::NoRun,
     ]
 }
