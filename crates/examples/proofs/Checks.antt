@@ -1,20 +1,19 @@
 -- A bound, or that there is no run, by a test over all runs of a small graph.
-use mathlib.Core.Path.{_≡_, refl, sym, ap, subst, _∙_}
+use mathlib.Core.Path.{_≡_, refl, sym}
 use mathlib.Core.Bool.{Bool, true, false, _&&_}
 use mathlib.Core.List.{List, [], _∷_}
-use Prim.Native.Nat.{ℕ}
 use lib.Dec.{T}
 use lib.ListN.{length}
 use Rattle.std.proofs.shelf.Tests.{true≢false, and-parts}
 use Rattle.model.specs.Graph.{Scope}
 use Rattle.model.specs.Measures.{Measure, Laws}
-use Rattle.model.specs.Runs.{Run, IsRun, IsBound, run-cost}
+use Rattle.model.specs.Runs.{Run, IsBound, run-cost}
 use Rattle.measures.specs.Meanings.{cycles, stack, that-many}
 use Rattle.measures.specs.Kept.{cycles-laws, stack-laws}
 use Rattle.examples.specs.declared.claims.Claim.{Claim}
 use Rattle.examples.specs.declared.claims.Claim.the-variants.{Bounds, NoRun}
 use Rattle.examples.specs.Graphs.{Right, Example, All-right, Every-example, examples}
-use Rattle.examples.proofs.Sets.{In, Lists, each, each-in, some, some-in}
+use Rattle.examples.proofs.Sets.{In, each, each-in, some, some-in}
 use Rattle.examples.proofs.Listing.{runs, covered, runs-list}
 
 is-true : (b : Bool) → b ≡ true → T b

@@ -2,7 +2,6 @@
 use mathlib.Core.List.{List, [], _∷_}
 use Prim.Native.Nat.{ℕ}
 use lib.IntN.{ℤ, pos, negsuc}
-use Rattle.model.specs.declared.graph.Node.{Node}
 use Rattle.model.specs.declared.graph.Node.the-variants.{Block, Call}
 use Rattle.model.specs.declared.graph.Target.{Target}
 use Rattle.model.specs.declared.graph.Target.the-variants.{To, Again, Leave}
@@ -62,6 +61,16 @@ caller = record {
   facts = [];
 }
 
+-- two passes, each a call of scope 1
+abbrev two-calls : Scope
+two-calls = record {
+  least = 2;
+  most = 2;
+  nodes = Call 1 ∷ [];
+  edges = edge 0 Again (pos 0) ∷ edge 0 Leave (pos 0) ∷ [];
+  facts = [];
+}
+
 -- a run that costs nothing
 abbrev free : Scope
 free = record { least = 1; most = 1; nodes = Block 0 0 ∷ []; edges = edge 0 Leave (pos 0) ∷ []; facts = [] }
@@ -88,6 +97,7 @@ examples =
     ∷ on (early-exit ∷ []) (Bounds 102 0)
     ∷ on (detour ∷ []) (Bounds 22 0)
     ∷ on (caller ∷ branching 1 4 [] ∷ []) (Bounds 58 40)
+    ∷ on (two-calls ∷ early-exit ∷ []) (Bounds 204 0)
     ∷ on (free ∷ []) (Bounds 0 0)
     ∷ on (empty ∷ []) NoRun
     ∷ []

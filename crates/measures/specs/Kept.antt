@@ -1,7 +1,7 @@
--- The laws of the two cost measures.
-use mathlib.Core.Path.{_≡_, refl, sym, ap, _∙_, subst}
-use mathlib.Core.Logic.{_⊎_, inl, inr}
-use Prim.Native.Nat.{ℕ, _+_, _-_, _^_, _≤_, _<_, min, max}
+-- The two cost measures keep the laws.
+use mathlib.Core.Path.{_≡_, refl, sym, ap, subst, _∙_}
+use mathlib.Core.Logic.{inl, inr}
+use Prim.Native.Nat.{ℕ, _+_, _^_, _≤_, _<_, max}
 use native.Mathlib.Omega.{arith}
 use native.Mathlib.Bridge.{le-prop}
 use native.Mathlib.Decide.{decLe}
@@ -9,45 +9,42 @@ use lib.Dec.{T, leb, leb→le, le→leb}
 use Rattle.model.specs.Measures.{Measure, Laws}
 use Rattle.measures.specs.declared.cycles.Cycles.{Cycles}
 use Rattle.measures.specs.declared.stack.Stack.{Stack}
-use Rattle.measures.specs.Meanings.{up-to-most, that-many, cycles, stack}
+use Rattle.measures.specs.Meanings.{up-to-most, cycles, stack}
 
--- what a way to join numbers has to keep, where nothing and the costs joined with it are numbers of costs
-pub record Joins (Cost : ℕ → Type 0) (zero : ℕ) (f : ℕ → ℕ → ℕ) : Type 0 where
-  pub assoc : (x y z : ℕ) → f (f x y) z ≡ f x (f y z)
-  pub left : (x : ℕ) → Cost x → f zero x ≡ x
-  pub right : (x : ℕ) → Cost x → f x zero ≡ x
-  pub mono : (x y z : ℕ) → x ≤ y → f x z ≤ f y z
-  pub mono-right : (x y z : ℕ) → x ≤ y → f z x ≤ f z y
+-- a measure whose costs are told apart, ordered and joined by a number that is read off them
+pub record Numbered {C : Type 0} (m : Measure C) (read : C → ℕ) (sum : ℕ → ℕ → ℕ) : Type 0 where
+  pub same : (a b : C) → read a ≡ read b → a ≡ b
+  pub order : (a b : C) → m .leq a b ≡ leb (read a) (read b)
+  pub joined : (a b : C) → read (m .join a b) ≡ sum (read a) (read b)
+  pub assoc : (x y z : ℕ) → sum (sum x y) z ≡ sum x (sum y z)
+  pub left : (a : C) → sum (read (m .nothing)) (read a) ≡ read a
+  pub right : (a : C) → sum (read a) (read (m .nothing)) ≡ read a
+  pub mono-left : (x y z : ℕ) → x ≤ y → sum x z ≤ sum y z
+  pub mono-right : (x y z : ℕ) → x ≤ y → sum z x ≤ sum z y
 
--- costs that are told apart by a number, ordered by it and joined by it, keep the laws
-module _ {C : Type 0} (m : Measure C) (read : C → ℕ) (Cost : ℕ → Type 0) (f : ℕ → ℕ → ℕ)
-    (fits : (a : C) → Cost (read a))
-    (same : (a b : C) → read a ≡ read b → a ≡ b)
-    (order : (a b : C) → m .leq a b ≡ leb (read a) (read b))
-    (joined : (a b : C) → read (m .join a b) ≡ f (read a) (read b))
-    (joins : Joins Cost (read (m .nothing)) f) where
+module _ {C : Type 0} (m : Measure C) (read : C → ℕ) (sum : ℕ → ℕ → ℕ) (by : Numbered m read sum) where
   below : (a b : C) → T (m .leq a b) → read a ≤ read b
-  below a b h = leb→le (read a) (read b) (subst T (order a b) h)
+  below a b h = leb→le (read a) (read b) (subst T (by .order a b) h)
 
-  below-from : (a b : C) → read a ≤ read b → T (m .leq a b)
-  below-from a b h = subst T (sym (order a b)) (le→leb (read a) (read b) h)
+  at-most : (a b : C) → read a ≤ read b → T (m .leq a b)
+  at-most a b h = subst T (sym (by .order a b)) (le→leb (read a) (read b) h)
 
-  pub number-laws : Laws m
-  number-laws = record {
-    total = λ a b. elim (decLe (read a) (read b)) [ yes h ↦ inl (below-from a b h) | no h ↦ inr (below-from b a (omega arith)) ];
-    trans = λ a b c h k. below-from a c (omega (arith, below a b h, below b c k));
-    antisym = λ a b h k. same a b (omega (arith, below a b h, below b a k));
-    assoc = λ a b c. same _ _ (joined (m .join a b) c ∙ ap (λ (x : ℕ). f x (read c)) (joined a b) ∙ joins .assoc (read a) (read b) (read c) ∙ ap (f (read a)) (sym (joined b c)) ∙ sym (joined a (m .join b c)));
-    left = λ a. same _ _ (joined (m .nothing) a ∙ joins .left (read a) (fits a));
-    right = λ a. same _ _ (joined a (m .nothing) ∙ joins .right (read a) (fits a));
-    mono-left = λ a b c h. below-from _ _ (omega (arith, joined a c, joined b c, joins .mono (read a) (read b) (read c) (below a b h)));
-    mono-right = λ a b c h. below-from _ _ (omega (arith, joined c a, joined c b, joins .mono-right (read a) (read b) (read c) (below a b h)));
+  numbered-laws : Laws m
+  numbered-laws = record {
+    total = λ a b. elim (decLe (read a) (read b)) [ yes h ↦ inl (at-most a b h) | no h ↦ inr (at-most b a (omega arith)) ];
+    trans = λ a b c h k. at-most a c (omega (arith, below a b h, below b c k));
+    antisym = λ a b h k. by .same a b (omega (arith, below a b h, below b a k));
+    assoc = λ a b c. by .same _ _ (by .joined (m .join a b) c ∙ ap (λ (x : ℕ). sum x (read c)) (by .joined a b) ∙ by .assoc (read a) (read b) (read c) ∙ sym (by .joined a (m .join b c) ∙ ap (sum (read a)) (by .joined b c)));
+    left = λ a. by .same _ _ (by .joined (m .nothing) a ∙ by .left a);
+    right = λ a. by .same _ _ (by .joined a (m .nothing) ∙ by .right a);
+    mono-left = λ a b c h. at-most _ _ (omega (arith, by .joined a c, by .joined b c, by .mono-left (read a) (read b) (read c) (below a b h)));
+    mono-right = λ a b c h. at-most _ _ (omega (arith, by .joined c a, by .joined c b, by .mono-right (read a) (read b) (read c) (below a b h)));
   }
 
 abbrev counted : (n : ℕ) → n < 2 ^ 64 → Cycles
 counted n h = record { count = n; fits = h }
 
--- costs with the same count are the same: that it fits can be shown in one way only
+-- costs with the same count are the same: there is one proof at most that it fits
 pub same-count : (a b : Cycles) → a .count ≡ b .count → a ≡ b
 same-count a b e =
     let P : ℕ → Type 0 = λ n. (h : n < 2 ^ 64) → a ≡ counted n h in
@@ -55,22 +52,31 @@ same-count a b e =
 
 pub cycles-laws : Laws cycles
 cycles-laws =
-    number-laws cycles (λ a. a .count) (λ n. n < 2 ^ 64) (λ x y. up-to-most (x + y)) (λ a. a .fits) same-count (λ a b. refl) (λ a b. refl)
+    numbered-laws cycles (λ a. a .count) (λ x y. up-to-most (x + y))
     (record {
+      same = same-count;
+      order = λ a b. refl;
+      joined = λ a b. refl;
       assoc = λ x y z. omega arith;
-      left = λ x h. omega arith;
-      right = λ x h. omega arith;
-      mono = λ x y z h. omega arith;
+      left = λ a. omega (arith, a .fits);
+      right = λ a. omega (arith, a .fits);
+      mono-left = λ x y z h. omega arith;
       mono-right = λ x y z h. omega arith;
     })
 
+abbrev high : ℕ → Stack
+high n = record { bytes = n }
+
 pub stack-laws : Laws stack
 stack-laws =
-    number-laws stack (λ a. a .bytes) (λ n. Unit {0}) max (λ a. tt) (λ a b e. ap (λ (n : ℕ). record { bytes = n }) e) (λ a b. refl) (λ a b. refl)
+    numbered-laws stack (λ a. a .bytes) max
     (record {
+      same = λ a b e. ap high e;
+      order = λ a b. refl;
+      joined = λ a b. refl;
       assoc = λ x y z. omega arith;
-      left = λ x h. omega arith;
-      right = λ x h. omega arith;
-      mono = λ x y z h. omega arith;
+      left = λ a. omega arith;
+      right = λ a. omega arith;
+      mono-left = λ x y z h. omega arith;
       mono-right = λ x y z h. omega arith;
     })

@@ -1,5 +1,4 @@
 -- What the two cost measures are.
-use mathlib.Core.Path.{_≡_}
 use Prim.Native.Nat.{ℕ, _+_, _-_, _^_, _<_, min, max}
 use native.Mathlib.Omega.{arith}
 use lib.Dec.{leb}

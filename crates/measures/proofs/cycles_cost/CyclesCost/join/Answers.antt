@@ -1,6 +1,5 @@
-use mathlib.Core.Path.{ap, _∙_}
+use mathlib.Core.Path.{_∙_}
 use native.Mathlib.Omega.{arith}
-use Rattle.measures.specs.Meanings.{that-many}
 use Rattle.measures.specs.Kept.{same-count}
 use Rattle.measures.proofs.cycles_cost.CyclesCost.join.Needs as need
 
