@@ -4,6 +4,7 @@ use mathlib.Core.Bool.{Bool, true, false, _&&_}
 use mathlib.Core.List.{List, [], _∷_}
 use lib.Dec.{T}
 use lib.ListN.{length}
+use Rattle.std.specs.shelf.Lists.{All}
 use Rattle.std.proofs.shelf.Tests.{true≢false, and-parts}
 use Rattle.model.specs.Graph.{Scope}
 use Rattle.model.specs.Measures.{Measure, Laws}
@@ -12,7 +13,7 @@ use Rattle.measures.specs.Meanings.{cycles, stack, that-many}
 use Rattle.measures.specs.Kept.{cycles-laws, stack-laws}
 use Rattle.examples.specs.declared.claims.Claim.{Claim}
 use Rattle.examples.specs.declared.claims.Claim.the-variants.{Bounds, NoRun}
-use Rattle.examples.specs.Graphs.{Right, Example, All-right, Every-example, examples}
+use Rattle.examples.specs.Graphs.{Right, Example, Every-example, examples}
 use Rattle.examples.proofs.Sets.{In, each, each-in, some, some-in}
 use Rattle.examples.proofs.Listing.{runs, covered, runs-list}
 
@@ -65,7 +66,7 @@ right-by-test g NoRun e =
     let t = and-parts (all-covered g) (none (all-runs g)) e in
     λ r h. none-in (all-runs g) (t .1) r (runs-list g (length g) 0 (t .0) .complete r h)
 
-all-by-test : (xs : List Example) → each (λ x. right (x .graph) (x .claim)) xs ≡ true → All-right xs
+all-by-test : (xs : List Example) → each (λ x. right (x .graph) (x .claim)) xs ≡ true → All (λ x. Right (x .graph) (x .claim)) xs
 all-by-test [] e = tt
 all-by-test (x ∷ xs) e =
     let t = and-parts (right (x .graph) (x .claim)) (each (λ y. right (y .graph) (y .claim)) xs) e in

@@ -1,7 +1,8 @@
 -- The worked graphs, and what is claimed of each.
 use mathlib.Core.List.{List, [], _∷_}
 use Prim.Native.Nat.{ℕ}
-use lib.IntN.{ℤ, pos, negsuc}
+use lib.IntN.{ℤ, pos, negℤ}
+use Rattle.std.specs.shelf.Lists.{All}
 use Rattle.model.specs.declared.graph.Node.the-variants.{Block, Call}
 use Rattle.model.specs.declared.graph.Target.{Target}
 use Rattle.model.specs.declared.graph.Target.the-variants.{To, Again, Leave}
@@ -15,6 +16,13 @@ use Rattle.measures.specs.Meanings.{cycles, stack, that-many}
 use Rattle.examples.specs.declared.claims.Claim.{Claim}
 use Rattle.examples.specs.declared.claims.Claim.the-variants.{Bounds, NoRun}
 
+-- effects
+abbrev plus : ℕ → ℤ
+plus n = pos n
+
+abbrev minus : ℕ → ℤ
+minus n = negℤ (pos n)
+
 abbrev edge : ℕ → Target → ℤ → Edge
 edge from to effect = record { from = from; to = to; effect = effect }
 
@@ -27,7 +35,7 @@ branching least most facts = record {
   least = least;
   most = most;
   nodes = Block 5 8 ∷ Block 10 40 ∷ Block 3 16 ∷ Block 2 8 ∷ [];
-  edges = edge 0 (To 1) (negsuc 1) ∷ edge 0 (To 2) (pos 0) ∷ edge 1 (To 3) (negsuc 0) ∷ edge 2 (To 3) (pos 0) ∷ edge 3 Again (negsuc 0) ∷ edge 3 Leave (pos 0) ∷ [];
+  edges = edge 0 (To 1) (minus 2) ∷ edge 0 (To 2) (plus 0) ∷ edge 1 (To 3) (minus 1) ∷ edge 2 (To 3) (plus 0) ∷ edge 3 Again (minus 1) ∷ edge 3 Leave (plus 0) ∷ [];
   facts = facts;
 }
 
@@ -37,7 +45,7 @@ early-exit = record {
   least = 1;
   most = 3;
   nodes = Block 1 0 ∷ Block 100 0 ∷ [];
-  edges = edge 0 Again (pos 0) ∷ edge 0 (To 1) (pos 0) ∷ edge 1 Leave (pos 0) ∷ edge 0 Leave (pos 0) ∷ [];
+  edges = edge 0 Again (plus 0) ∷ edge 0 (To 1) (plus 0) ∷ edge 1 Leave (plus 0) ∷ edge 0 Leave (plus 0) ∷ [];
   facts = fact (Bar 1) 3 3 ∷ [];
 }
 
@@ -47,7 +55,7 @@ detour = record {
   least = 1;
   most = 1;
   nodes = Block 1 0 ∷ Block 10 0 ∷ Block 10 0 ∷ Block 1 0 ∷ [];
-  edges = edge 0 (To 3) (pos 0) ∷ edge 0 (To 1) (pos 0) ∷ edge 1 (To 2) (pos 0) ∷ edge 2 (To 3) (pos 0) ∷ edge 3 Leave (pos 0) ∷ [];
+  edges = edge 0 (To 3) (plus 0) ∷ edge 0 (To 1) (plus 0) ∷ edge 1 (To 2) (plus 0) ∷ edge 2 (To 3) (plus 0) ∷ edge 3 Leave (plus 0) ∷ [];
   facts = [];
 }
 
@@ -57,23 +65,23 @@ caller = record {
   least = 1;
   most = 1;
   nodes = Block 4 24 ∷ Call 1 ∷ [];
-  edges = edge 0 (To 1) (negsuc 0) ∷ edge 1 Leave (pos 2) ∷ [];
+  edges = edge 0 (To 1) (minus 1) ∷ edge 1 Leave (plus 2) ∷ [];
   facts = [];
 }
 
--- two passes, each a call of scope 1
+-- two passes, each a call of scope 1, whose own passes are counted anew at each entry
 abbrev two-calls : Scope
 two-calls = record {
   least = 2;
   most = 2;
   nodes = Call 1 ∷ [];
-  edges = edge 0 Again (pos 0) ∷ edge 0 Leave (pos 0) ∷ [];
+  edges = edge 0 Again (plus 0) ∷ edge 0 Leave (plus 0) ∷ [];
   facts = [];
 }
 
 -- a run that costs nothing
 abbrev free : Scope
-free = record { least = 1; most = 1; nodes = Block 0 0 ∷ []; edges = edge 0 Leave (pos 0) ∷ []; facts = [] }
+free = record { least = 1; most = 1; nodes = Block 0 0 ∷ []; edges = edge 0 Leave (plus 0) ∷ []; facts = [] }
 
 abbrev empty : Scope
 empty = record { least = 1; most = 1; nodes = []; edges = []; facts = [] }
@@ -107,9 +115,5 @@ abbrev pub Right : List Scope → Claim → Type 0
 Right g (Bounds c k) = IsBound cycles g 0 (that-many c) × IsBound stack g 0 (record { bytes = k })
 Right g NoRun = (r : Run) → IsRun g 0 r → ⊥
 
-abbrev pub All-right : List Example → Type 0
-All-right [] = Unit {0}
-All-right (x ∷ xs) = Right (x .graph) (x .claim) × All-right xs
-
 abbrev pub Every-example : Type 0
-Every-example = All-right examples
+Every-example = All (λ x. Right (x .graph) (x .claim)) examples
