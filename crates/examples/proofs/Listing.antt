@@ -107,7 +107,7 @@ most-edges s = suc (length (s .nodes))
 
 -- the walks of pass number k to an end
 abbrev pub allowed : (ℕ → List Run) → Scope → ℕ → Target → List Walk
-allowed runs-of s k end = those (λ w. meets (s .facts) k (executed s (way-of w))) (walks runs-of s end (most-edges s) (To 0))
+allowed runs-of s k end = those (λ w. meets (s .facts) k (executed (s .edges) (way-of w))) (walks runs-of s end (most-edges s) (To 0))
 
 -- at most f passes, from number k on
 abbrev pub passes : (ℕ → List Run) → Scope → ℕ → ℕ → List Passes
@@ -115,13 +115,13 @@ passes runs-of s zero k = []
 passes runs-of s (suc f) k = map final (allowed runs-of s k Leave) ++ joined (λ w. map (then w) (passes runs-of s f (suc k))) (allowed runs-of s k Again)
 
 module _ (g : List Scope) (s : Scope) (runs-of : ℕ → List Run) (called : (n t : ℕ) → nth (s .nodes) n ≡ Some (Call t) → Lists (IsRun g t) (runs-of t)) (short : enough s (most-edges s) (To 0) ≡ true) where
-  allowed-list : (k : ℕ) (end : Target) → Lists (λ w. IsWalk g s (To 0) end w × Meets (s .facts) k (executed s (way-of w))) (allowed runs-of s k end)
+  allowed-list : (k : ℕ) (end : Target) → Lists (λ w. IsWalk g s (To 0) end w × Meets (s .facts) k (executed (s .edges) (way-of w))) (allowed runs-of s k end)
   allowed-list k end =
-      let test : Walk → Bool = λ w. meets (s .facts) k (executed s (way-of w)) in
+      let test : Walk → Bool = λ w. meets (s .facts) k (executed (s .edges) (way-of w)) in
       let all : List Walk = walks runs-of s end (most-edges s) (To 0) in
       record {
-        sound = λ w h. let t = those-in test w all h in (walks-sound g s runs-of called (most-edges s) end (To 0) w (t .1), decides-meets (s .facts) k (executed s (way-of w)) .0 (t .0));
-        complete = λ w h. in-those test w all (decides-meets (s .facts) k (executed s (way-of w)) .1 (h .1)) (walks-complete g s runs-of called (most-edges s) end (To 0) short w (h .0));
+        sound = λ w h. let t = those-in test w all h in (walks-sound g s runs-of called (most-edges s) end (To 0) w (t .1), decides-meets (s .facts) k (executed (s .edges) (way-of w)) .0 (t .0));
+        complete = λ w h. in-those test w all (decides-meets (s .facts) k (executed (s .edges) (way-of w)) .1 (h .1)) (walks-complete g s runs-of called (most-edges s) end (To 0) short w (h .0));
       }
 
   passes-sound : (f k : ℕ) (ps : Passes) → In ps (passes runs-of s f k) → (count ps ≤ f) × ArePasses g s k ps
