@@ -1,4 +1,5 @@
 pub mod Graph
 pub mod Measures
 pub mod Numbers
+pub mod Rules
 pub mod Runs

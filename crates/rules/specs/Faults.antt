@@ -1,0 +1,77 @@
+-- What is wrong with one item of a graph: the broken rule of the smallest number, if any.
+use mathlib.Core.Bool.{Bool, true, false, cond, _||_}
+use Prim.Native.Nat.{ℕ, zero, suc}
+use lib.Dec.{eqb, leb, ltb}
+use lib.IntN.{ℤ, pos, negsuc, _+ℤ_}
+use lib.Signed.{ltZ}
+use Rattle.std.specs.declared.option.Option.{Option}
+use Rattle.std.specs.declared.option.Option.the-variants.{Some, None}
+use Rattle.model.specs.declared.graph.Node.{Node}
+use Rattle.model.specs.declared.graph.Node.the-variants.{Block, Call}
+use Rattle.model.specs.declared.graph.Target.{Target}
+use Rattle.model.specs.declared.graph.Target.the-variants.{To, Again, Leave}
+use Rattle.model.specs.declared.graph.Edge.{Edge}
+use Rattle.model.specs.declared.graph.Constraint.{Constraint}
+use Rattle.model.specs.declared.graph.Constraint.the-variants.{Bar, Must, Pair}
+use Rattle.model.specs.declared.graph.Fact.{Fact}
+use Rattle.model.specs.declared.refusal.Refusal.{Refusal}
+use Rattle.model.specs.declared.refusal.Refusal.the-variants.{BadPasses, BadFigure, Missing, NotForward, NegativeWeight, BadFact}
+use Rattle.model.specs.Numbers.{number}
+
+-- the one of the smaller number
+abbrev pub lesser : Refusal → Refusal → Refusal
+lesser x y = cond (ltb (number y) (number x)) y x
+
+abbrev pub lower : Option Refusal → Option Refusal → Option Refusal
+lower None b = b
+lower (Some x) None = Some x
+lower (Some x) (Some y) = Some (lesser x y)
+
+abbrev pub passes-fault : ℕ → ℕ → Option Refusal
+passes-fault least most = cond (eqb least 0 || ltb most least) (Some BadPasses) None
+
+abbrev pub node-fault : ℕ → Node → Option Refusal
+node-fault scopes (Block time stack) = cond (ltb 1000000 time) (Some BadFigure) None
+node-fault scopes (Call t) = cond (leb scopes t) (Some Missing) None
+
+abbrev pub effect-over : ℤ → Bool
+effect-over effect = ltZ effect (negsuc 999999) || ltZ (pos 1000000) effect
+
+abbrev pub leads-beyond : ℕ → Target → Bool
+leads-beyond nodes (To n) = leb nodes n
+leads-beyond nodes Again = false
+leads-beyond nodes Leave = false
+
+abbrev pub leads-back : ℕ → Target → Bool
+leads-back from (To n) = leb n from
+leads-back from Again = false
+leads-back from Leave = false
+
+abbrev pub weight-below : Option Node → ℤ → Bool
+weight-below None effect = false
+weight-below (Some (Block time stack)) effect = ltZ (pos time +ℤ effect) (pos 0)
+weight-below (Some (Call t)) effect = ltZ effect (pos 0)
+
+-- of an edge, with its start node
+abbrev pub edge-fault : ℕ → Option Node → Edge → Option Refusal
+edge-fault nodes start e =
+    cond (effect-over (e .effect)) (Some BadFigure)
+    (cond (leb nodes (e .from) || leads-beyond nodes (e .to)) (Some Missing)
+    (cond (leads-back (e .from) (e .to)) (Some NotForward)
+    (cond (weight-below start (e .effect)) (Some NegativeWeight) None)))
+
+abbrev pub names-beyond : ℕ → Constraint → Bool
+names-beyond nodes (Bar n) = leb nodes n
+names-beyond nodes (Must n) = leb nodes n
+names-beyond nodes (Pair n m) = leb nodes n || leb nodes m
+
+abbrev pub names-twice : Constraint → Bool
+names-twice (Bar n) = false
+names-twice (Must n) = false
+names-twice (Pair n m) = eqb n m
+
+-- of a flow fact in a scope with so many nodes and such a most
+abbrev pub fact-fault : ℕ → ℕ → Fact → Option Refusal
+fact-fault nodes most f =
+    cond (names-beyond nodes (f .constraint)) (Some Missing)
+    (cond (eqb (f .first) 0 || (ltb (f .last) (f .first) || (ltb most (f .last) || names-twice (f .constraint)))) (Some BadFact) None)

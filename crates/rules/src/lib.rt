@@ -1,0 +1,2 @@
+// The rules of scope graphs, for everything that can be asked as one.
+mod item;
