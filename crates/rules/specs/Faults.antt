@@ -1,7 +1,9 @@
 -- What is wrong with one item of a graph: the broken rule of the smallest number, if any.
 use mathlib.Core.Bool.{Bool, true, false, cond, _||_}
+use mathlib.Core.List.{List}
 use Prim.Native.Nat.{ℕ, zero, suc}
 use lib.Dec.{eqb, leb, ltb}
+use lib.ListN.{length}
 use lib.IntN.{ℤ, pos, negsuc, _+ℤ_}
 use lib.Signed.{ltZ}
 use Rattle.std.specs.declared.option.Option.{Option}
@@ -16,7 +18,9 @@ use Rattle.model.specs.declared.graph.Constraint.the-variants.{Bar, Must, Pair}
 use Rattle.model.specs.declared.graph.Fact.{Fact}
 use Rattle.model.specs.declared.refusal.Refusal.{Refusal}
 use Rattle.model.specs.declared.refusal.Refusal.the-variants.{BadPasses, BadFigure, Missing, NotForward, NegativeWeight, BadFact}
+use Rattle.model.specs.Graph.{Scope, in-scope, node-at, edge-at, fact-at}
 use Rattle.model.specs.Numbers.{number}
+use Rattle.std.specs.Finite.{nth}
 
 -- the one of the smaller number
 abbrev pub lesser : Refusal → Refusal → Refusal
@@ -75,3 +79,41 @@ abbrev pub fact-fault : ℕ → ℕ → Fact → Option Refusal
 fact-fault nodes most f =
     cond (names-beyond nodes (f .constraint)) (Some Missing)
     (cond (eqb (f .first) 0 || (ltb (f .last) (f .first) || (ltb most (f .last) || names-twice (f .constraint)))) (Some BadFact) None)
+
+-- what f finds in an item that is there
+abbrev pub found : {A : Type 0} → (A → Option Refusal) → Option A → Option Refusal
+found f None = None
+found f (Some x) = f x
+
+-- the lowest of the first n findings
+abbrev pub lowest : (ℕ → Option Refusal) → ℕ → Option Refusal
+lowest f zero = None
+lowest f (suc n) = lower (lowest f n) (f n)
+
+-- the findings in scope number i, by the numbers of its nodes, edges and facts
+abbrev pub node-finding : List Scope → ℕ → ℕ → ℕ → Option Refusal
+node-finding g scopes i n = found (node-fault scopes) (node-at g i n)
+
+abbrev pub edge-finding : List Scope → ℕ → ℕ → ℕ → Option Refusal
+edge-finding g nodes i n = found (λ e. edge-fault nodes (node-at g i (e .from)) e) (edge-at g i n)
+
+abbrev pub fact-finding : List Scope → ℕ → ℕ → ℕ → ℕ → Option Refusal
+fact-finding g nodes most i n = found (fact-fault nodes most) (fact-at g i n)
+
+abbrev pub scope-fault : List Scope → ℕ → ℕ → Scope → Option Refusal
+scope-fault g scopes i s =
+    lower (passes-fault (s .least) (s .most))
+    (lower (lowest (node-finding g scopes i) (length (s .nodes)))
+    (lower (lowest (edge-finding g (length (s .nodes)) i) (length (s .edges)))
+    (lowest (fact-finding g (length (s .nodes)) (s .most) i) (length (s .facts)))))
+
+abbrev pub scope-finding : List Scope → ℕ → ℕ → Option Refusal
+scope-finding g scopes i = in-scope (nth g i) (scope-fault g scopes i)
+
+abbrev pub too-many : Scope → Bool
+too-many s = ltb 32 (length (s .nodes)) || (ltb 96 (length (s .edges)) || ltb 4 (length (s .facts)))
+
+-- whether scope number i is there and has more of something than it may have
+abbrev pub over : Option Scope → Bool
+over None = false
+over (Some s) = too-many s

@@ -1,2 +1,3 @@
 // The rules of scope graphs, for everything that can be asked as one.
 mod item;
+mod scope;
