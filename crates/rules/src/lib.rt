@@ -1,3 +1,4 @@
 // The rules of scope graphs, for everything that can be asked as one.
+mod calls;
 mod item;
 mod scope;
