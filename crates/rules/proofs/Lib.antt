@@ -1,2 +1,4 @@
 mod Lowest
+mod Placing
+mod Rings
 mod Rows

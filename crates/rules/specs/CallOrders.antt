@@ -1,7 +1,7 @@
 -- An order of the scopes in which every called scope stands before its callers.
 use mathlib.Core.Path.{_≡_}
 use mathlib.Core.Bool.{Bool, true, false}
-use mathlib.Core.List.{List}
+use mathlib.Core.List.{List, []}
 use mathlib.Core.Logic.{_⊎_}
 use Prim.Native.Nat.{ℕ, _≤_, _<_}
 use lib.ListN.{length, getD}
@@ -50,3 +50,8 @@ Ready row placed n = (t : ℕ) → t < n → getD row t false ≡ true → getD 
 -- some scope that the row tells of is not
 abbrev pub Blocked : List Bool → List Bool → ℕ → Type 0
 Blocked row placed n = (t : ℕ) × (t < n) × (getD row t false ≡ true) × (getD placed t false ≡ false)
+
+-- a scope to be placed next: it is not placed, and those that it calls are; or there is none, and each is placed or blocked
+abbrev pub Next : List (List Bool) → List Bool → ℕ → Option ℕ → Type 0
+Next table placed n None = (s : ℕ) → s < n → getD placed s false ≡ false → Blocked (getD table s []) placed n
+Next table placed n (Some s) = (s < n) × (getD placed s false ≡ false) × Ready (getD table s []) placed n

@@ -1,4 +1,5 @@
 // The rules of scope graphs, for everything that can be asked as one.
 mod calls;
 mod item;
+pub mod order;
 mod scope;
