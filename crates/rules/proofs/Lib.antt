@@ -1,3 +1,5 @@
+mod Items
+mod Judging
 mod Lowest
 mod Placing
 mod Rings

@@ -78,7 +78,8 @@ placing-none g =
       marked = λ k h. absurd (omega arith);
       has = λ s e. absurd (unmarked s e);
       once = λ k l h. absurd (omega arith);
-      before = λ k t h. absurd (omega arith) }
+      before = λ k t h. absurd (omega arith);
+    }
 
 -- scope s is not placed, and those that it calls are: it is placed next
 module _ (g : List Scope) (order : List ℕ) (placed : List Bool) (n s : ℕ) (o : Placing g order placed n) (room : n < 16) (is : s < length g) (fits : s < 16) (new : getD placed s false ≡ false) (calls : (t : ℕ) → t < length g → Calls g s t → getD placed t false ≡ true) where
@@ -139,8 +140,9 @@ module _ (g : List Scope) (order : List ℕ) (placed : List Bool) (n s : ℕ) (o
         ];
         once = only;
         before = λ k t h i c. by-place (λ j x. Calls g x t → (l : ℕ) × (l < j) × (getD (set order n s) l 0 ≡ t))
-          (λ j b d. let w = o .before j t b i d in (w .0, w .1, old (w .0) (omega (arith, w .1)) ∙ w .2))
-          (λ d. let w = o .has t (calls t i d) in (w .0, w .1, old (w .0) (w .1) ∙ w .2)) k h c }
+            (λ j b d. let w = o .before j t b i d in (w .0, w .1, old (w .0) (omega (arith, w .1)) ∙ w .2))
+            (λ d. let w = o .has t (calls t i d) in (w .0, w .1, old (w .0) (w .1) ∙ w .2)) k h c;
+      }
 
 -- the table tells the calls of each scope: the next one is placed
 pub placing-next : (g : List Scope) (order : List ℕ) (placed : List Bool) (table : List (List Bool)) (scopes n s : ℕ) → scopes ≡ length g → scopes ≤ 16 → ((i : ℕ) → i < scopes → Row g i (getD table i [])) → Placing g order placed n → n < scopes → Next table placed scopes (Some s) → Placing g (set order n s) (set placed s true) (n + 1)
@@ -155,11 +157,12 @@ placing-all g order placed n e o =
       within = λ k h. o .within k (omega arith);
       placed = λ s h. let w = o .has s (all-true placed (length g) s below (o .count ∙ e) h) in (w .0, omega (arith, w .1), w .2);
       once = λ k l h i. o .once k l (omega arith) (omega arith);
-      before = λ k t h. o .before k t (omega arith) }
+      before = λ k t h. o .before k t (omega arith);
+    }
 
 -- not all are placed, and each that is not calls another such: so there is a ring
 pub blocked-ring : (g : List Scope) (order : List ℕ) (placed : List Bool) (table : List (List Bool)) (scopes n : ℕ) → scopes ≤ 16 → ((i : ℕ) → i < scopes → Row g i (getD table i [])) → Placing g order placed n → n < scopes → Next table placed scopes None → Ring g
 blocked-ring g order placed table scopes n small rows o h blocked =
     let u = some-false placed scopes (omega (arith, o .count)) in
     leads-to-itself (Reaches g) (reaches-join g) (λ s. not (getD placed s false)) scopes (u .0) (u .1) (ap not (u .2)) (λ a b x.
-      let w = blocked a b (not-true _ x) in (w .0, w .1, ap not (w .3), directly (rows a b (w .0) (omega (arith, w .1)) .0 (w .2))))
+    let w = blocked a b (not-true _ x) in (w .0, w .1, ap not (w .3), directly (rows a b (w .0) (omega (arith, w .1)) .0 (w .2))))

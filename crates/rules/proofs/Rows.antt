@@ -47,24 +47,28 @@ row-mark g i n t row e l h r u k =
           (λ _. (n, omega arith, called (node-at g i n) t e ∙ ap (λ z. Some (Call z)) (sym q)), λ _. let P : ℕ → Type 0 = λ z. getD (set row t true) z false ≡ true in subst P (sym q) (getD-set-same row t true false (omega arith)))
       | inr q ↦
           let same : getD (set row t true) u false ≡ getD row u false = getD-set-other row t u true false q in
-          let d = r u k in
-          (λ x. let w = d .0 (sym same ∙ x) in (w .0, omega (arith, w .1), w .2), λ w. same ∙ (elim (cases-eq (w .0) n) [
-            | inl p ↦
-                let a : node-at g i n ≡ Some (Call u) = ap (node-at g i) (sym p) ∙ w .2 in
-                let b = called (node-at g i n) t e in
-                let c : u ≡ t = cc in absurd (q c)
-            | inr p ↦ d .1 (w .0, omega (arith, w .1), w .2)
-          ]))
+          let d = r u k in (
+            λ x. let w = d .0 (sym same ∙ x) in (w .0, omega (arith, w .1), w .2),
+            λ w. same ∙ (elim (cases-eq (w .0) n) [
+              | inl p ↦
+                  let a : node-at g i n ≡ Some (Call u) = ap (node-at g i) (sym p) ∙ w .2 in
+                  let b = called (node-at g i n) t e in
+                  let c : u ≡ t = cc in absurd (q c)
+              | inr p ↦ d .1 (w .0, omega (arith, w .1), w .2)
+            ]),
+          )
     ]
 
 -- the next node calls no scope of the row
 pub row-keep : (g : List Scope) (i n : ℕ) (row : List Bool) → ((t : ℕ) → t < 16 → callee-of (node-at g i n) ≡ Some t → ⊥) → RowTo g i n row → RowTo g i (n + 1) row
 row-keep g i n row none r u k =
-    let d = r u k in
-    (λ x. let w = d .0 x in (w .0, omega (arith, w .1), w .2), λ w. elim (cases-eq (w .0) n) [
-      | inl p ↦ absurd (none u k (ap callee-of (ap (node-at g i) (sym p) ∙ w .2)))
-      | inr p ↦ d .1 (w .0, omega (arith, w .1), w .2)
-    ])
+    let d = r u k in (
+      λ x. let w = d .0 x in (w .0, omega (arith, w .1), w .2),
+      λ w. elim (cases-eq (w .0) n) [
+        | inl p ↦ absurd (none u k (ap callee-of (ap (node-at g i) (sym p) ∙ w .2)))
+        | inr p ↦ d .1 (w .0, omega (arith, w .1), w .2)
+      ],
+    )
 
 -- the next node calls none
 pub row-skip : (g : List Scope) (i n : ℕ) (row : List Bool) → None ≡ callee-of (node-at g i n) → RowTo g i n row → RowTo g i (n + 1) row

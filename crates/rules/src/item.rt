@@ -10,17 +10,14 @@ use model::refusal::Refusal;
 
 // The longest time of a block, and the largest effect of an edge either way, in cycles.
 const LONGEST: u32 = 1_000_000;
+
 const LARGEST: i32 = 1_000_000;
 
 // Of two refusals the one of the smaller number.
 fn lesser(x: Refusal, y: Refusal) -> Refusal
     ensures { λ r. ⌜ r ≡ lesser x y ⌝ }
 {
-    if y.number() < x.number() {
-        y
-    } else {
-        x
-    }
+    if y.number() < x.number() { y } else { x }
 }
 
 // The same of two findings, either of which may be none.

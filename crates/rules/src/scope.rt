@@ -12,7 +12,9 @@ use model::scope_graph::ScopeGraph;
 
 // The most nodes, edges and facts of a scope.
 const NODES: usize = 32;
+
 const EDGES: usize = 96;
+
 const FACTS: usize = 4;
 
 // Has the scope more nodes, edges or facts than it may have?
