@@ -27,8 +27,8 @@ abbrev pub Some-in : {A : Type 0} → List A → (A → Type 0) → Type 0
 Some-in {A} xs P = (k : ℕ) × (x : A) × (nth xs k ≡ Some x) × P x
 
 -- element number n does not exist
-abbrev pub No : {A : Type 0} → List A → ℕ → Type 0
-No xs n = length xs ≤ n
+abbrev pub Absent : {A : Type 0} → List A → ℕ → Type 0
+Absent xs n = length xs ≤ n
 
 -- more nodes, edges or facts than a scope may have
 abbrev pub TooMany : Scope → Type 0
@@ -50,23 +50,23 @@ EffectOver e = (e .effect <ℤ negsuc 999999) ⊎ (pos 1000000 <ℤ e .effect)
 -- a call of a scope that does not exist
 abbrev pub CalledMissing : List Scope → Node → Type 0
 CalledMissing g (Block time stack) = ⊥
-CalledMissing g (Call t) = No g t
+CalledMissing g (Call t) = Absent g t
 
 -- an edge to a node that does not exist
 abbrev pub TargetMissing : List Node → Target → Type 0
-TargetMissing ns (To n) = No ns n
+TargetMissing ns (To n) = Absent ns n
 TargetMissing ns Again = ⊥
 TargetMissing ns Leave = ⊥
 
 -- an edge of which an end does not exist
 abbrev pub EndMissing : List Node → Edge → Type 0
-EndMissing ns e = No ns (e .from) ⊎ TargetMissing ns (e .to)
+EndMissing ns e = Absent ns (e .from) ⊎ TargetMissing ns (e .to)
 
 -- a node of a flow fact that does not exist
 abbrev pub NodeMissing : List Node → Constraint → Type 0
-NodeMissing ns (Bar n) = No ns n
-NodeMissing ns (Must n) = No ns n
-NodeMissing ns (Pair n m) = No ns n ⊎ No ns m
+NodeMissing ns (Bar n) = Absent ns n
+NodeMissing ns (Must n) = Absent ns n
+NodeMissing ns (Pair n m) = Absent ns n ⊎ Absent ns m
 
 -- an edge from node n to a node not greater than n
 abbrev pub Backward : ℕ → Target → Type 0

@@ -27,7 +27,7 @@ use Rattle.model.specs.declared.refusal.Refusal.{Refusal}
 use Rattle.model.specs.declared.refusal.Refusal.the-variants.{BadPasses, BadFigure, Missing, NotForward, NegativeWeight, BadFact}
 use Rattle.model.specs.Graph.{Scope}
 use Rattle.model.specs.Numbers.{number}
-use Rattle.model.specs.Rules.{No, PassesWrong, TimeOver, EffectOver, CalledMissing, TargetMissing, EndMissing, NodeMissing, Backward, Negative, WeightBelow, SameNode, FactWrong}
+use Rattle.model.specs.Rules.{PassesWrong, TimeOver, EffectOver, CalledMissing, TargetMissing, EndMissing, NodeMissing, Backward, Negative, WeightBelow, SameNode, FactWrong}
 use Rattle.rules.specs.Faults.{passes-fault, node-fault, effect-over, leads-beyond, leads-back, weight-below, edge-fault, names-beyond, names-twice, fact-fault}
 use Rattle.rules.proofs.Lowest.{Least, least-if, least-else, least-like}
 

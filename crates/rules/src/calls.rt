@@ -24,10 +24,10 @@ fn callee<G: ScopeGraph>(graph: &G, scope: usize, n: usize) -> Option<usize>
 }
 
 // The scopes that a scope calls.
-fn calls_of<G: ScopeGraph>(graph: &G, scope: usize) -> [bool; 16]
+fn calls_of<G: ScopeGraph>(graph: &G, scope: usize) -> [bool; SCOPES]
     ensures { λ r. ⌜ Row (G·ScopeGraph .graph (now (graph .entry))) scope r ⌝ }
 {
-    let mut called = [false; 16];
+    let mut called = [false; SCOPES];
     let nodes = graph.nodes(scope).unwrap_or(0);
     for n in 0..nodes {
         if let Some(t) = callee(graph, scope, n) {
@@ -40,11 +40,11 @@ fn calls_of<G: ScopeGraph>(graph: &G, scope: usize) -> [bool; 16]
 }
 
 // The same for every scope of a graph.
-pub fn call_table<G: ScopeGraph>(graph: &G, scopes: usize) -> [[bool; 16]; 16]
+pub fn call_table<G: ScopeGraph>(graph: &G, scopes: usize) -> [[bool; SCOPES]; SCOPES]
     requires { ⌜ scopes ≤ 16 ⌝ }
     ensures { λ r. ⌜ ((s : ℕ) → s < scopes → Row (G·ScopeGraph .graph (now (graph .entry))) s (getD r s [])) ⌝ }
 {
-    let mut table = [[false; 16]; 16];
+    let mut table = [[false; SCOPES]; SCOPES];
     for scope in 0..scopes {
         table[scope] = calls_of(graph, scope);
     }
@@ -52,7 +52,7 @@ pub fn call_table<G: ScopeGraph>(graph: &G, scopes: usize) -> [[bool; 16]; 16]
 }
 
 // Is every called scope placed already?
-pub fn ready(row: &[bool; 16], placed: &[bool; 16], scopes: usize) -> bool
+pub fn ready(row: &[bool; SCOPES], placed: &[bool; SCOPES], scopes: usize) -> bool
     requires { ⌜ scopes ≤ 16 ⌝ }
     ensures { λ r. ⌜ When r (Ready (now (row .entry)) (now (placed .entry)) scopes) (Blocked (now (row .entry)) (now (placed .entry)) scopes) ⌝ }
 {

@@ -7,7 +7,11 @@ use crate::calls::ready;
 use model::scope_graph::ScopeGraph;
 
 // The first scope that is not placed yet and calls placed scopes only.
-fn next_ready(table: &[[bool; 16]; 16], placed: &[bool; 16], scopes: usize) -> Option<usize>
+fn next_ready(
+    table: &[[bool; SCOPES]; SCOPES],
+    placed: &[bool; SCOPES],
+    scopes: usize,
+) -> Option<usize>
     requires { ⌜ scopes ≤ 16 ⌝ }
     ensures { λ r. ⌜ Next (now (table .entry)) (now (placed .entry)) scopes r ⌝ }
 {
@@ -21,7 +25,7 @@ fn next_ready(table: &[[bool; 16]; 16], placed: &[bool; 16], scopes: usize) -> O
 
 // The scopes in an order in which every called scope stands before its callers. There is none for
 // more than 16 scopes, or where a scope reaches itself through calls.
-pub fn call_order<G: ScopeGraph>(graph: &G) -> Option<[u8; 16]>
+pub fn call_order<G: ScopeGraph>(graph: &G) -> Option<[u8; SCOPES]>
     ensures { λ r. ⌜ Ordered (G·ScopeGraph .graph (now (graph .entry))) r ⌝ }
 {
     let scopes = graph.scopes();
@@ -29,8 +33,8 @@ pub fn call_order<G: ScopeGraph>(graph: &G) -> Option<[u8; 16]>
         return None;
     }
     let table = call_table(graph, scopes);
-    let mut order = [0; 16];
-    let mut placed = [false; 16];
+    let mut order = [0; SCOPES];
+    let mut placed = [false; SCOPES];
     for k in 0..scopes {
         let scope = next_ready(&table, &placed, scopes)?;
         placed[scope] = true;
