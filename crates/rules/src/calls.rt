@@ -7,11 +7,9 @@ ghost use lib.ListN.{length, getD};
 ghost use Rattle.std.specs.Orderings.{When};
 ghost use Rattle.model.specs.Graph.{node-at};
 ghost use Rattle.rules.specs.CallOrders.{callee-of, Row, Ready, Blocked};
+use crate::limits::SCOPES;
 use model::graph::Node;
 use model::scope_graph::ScopeGraph;
-
-// The most scopes of a graph.
-pub const SCOPES: usize = 16;
 
 // The scope that a node calls, if any.
 fn callee<G: ScopeGraph>(graph: &G, scope: usize, n: usize) -> Option<usize>

@@ -1,17 +1,14 @@
 // What is wrong with one item of a graph: the broken rule of the smallest number, if any.
 ghost use mathlib.Core.Path.{_≡_};
 ghost use Rattle.rules.specs.Faults.{lesser, lower, passes-fault, node-fault, effect-over, leads-beyond, leads-back, weight-below, edge-fault, names-beyond, names-twice, fact-fault};
+use crate::limits::LARGEST;
+use crate::limits::LONGEST;
 use model::graph::Constraint;
 use model::graph::Edge;
 use model::graph::Fact;
 use model::graph::Node;
 use model::graph::Target;
 use model::refusal::Refusal;
-
-// The longest time of a block, and the largest effect of an edge either way, in cycles.
-const LONGEST: u32 = 1_000_000;
-
-const LARGEST: i32 = 1_000_000;
 
 // Of two refusals the one of the smaller number.
 fn lesser(x: Refusal, y: Refusal) -> Refusal

@@ -2,5 +2,6 @@
 mod calls;
 mod item;
 pub mod judge;
+pub mod limits;
 pub mod order;
 mod scope;

@@ -1,9 +1,9 @@
 // An order of the scopes in which every called scope stands before its callers.
 ghost use Prim.Native.Nat.{_≤_};
 ghost use Rattle.rules.specs.CallOrders.{Next, Ordered};
-use crate::calls::SCOPES;
 use crate::calls::call_table;
 use crate::calls::ready;
+use crate::limits::SCOPES;
 use model::scope_graph::ScopeGraph;
 
 // The first scope that is not placed yet and calls placed scopes only.

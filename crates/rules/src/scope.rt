@@ -7,15 +7,11 @@ use crate::item::fact_fault;
 use crate::item::lower;
 use crate::item::node_fault;
 use crate::item::passes_fault;
+use crate::limits::EDGES;
+use crate::limits::FACTS;
+use crate::limits::NODES;
 use model::refusal::Refusal;
 use model::scope_graph::ScopeGraph;
-
-// The most nodes, edges and facts of a scope.
-const NODES: usize = 32;
-
-const EDGES: usize = 96;
-
-const FACTS: usize = 4;
 
 // Has the scope more nodes, edges or facts than it may have?
 pub fn over_limit<G: ScopeGraph>(graph: &G, scope: usize) -> bool
