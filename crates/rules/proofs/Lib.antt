@@ -1,5 +1,6 @@
 mod Items
 mod Judging
+pub mod Kept
 mod Lowest
 mod Placing
 mod Rings
