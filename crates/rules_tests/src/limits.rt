@@ -27,10 +27,7 @@ fn counts(rt: LibcRuntime) -> Result<(), Fail> {
     ];
     for (times, records, expected) in cases {
         check_eq(
-            number(
-                &rt,
-                &[(1, &[Scope(1, 1), Block(0, 0)]), (times, records)],
-            )?,
+            number(&rt, &[(1, &[Scope(1, 1), Block(0, 0)]), (times, records)])?,
             expected,
         )?;
     }

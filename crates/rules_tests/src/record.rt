@@ -25,6 +25,7 @@ pub enum Record {
 
 // Where an edge to no node leads.
 pub const AGAIN: u8 = 254;
+
 pub const LEAVE: u8 = 255;
 
 // Appends a record.
@@ -89,4 +90,16 @@ pub fn number(rt: &LibcRuntime, parts: &[(usize, &[Record])]) -> Result<u8, Fail
         None => Ok(0),
         Some(refusal) => Ok(refusal.number()),
     }
+}
+
+// Each case: records after those that all begin with, and the number of the first broken rule.
+pub fn check_table(
+    rt: &LibcRuntime,
+    start: &[Record],
+    cases: &[(&[Record], u8)],
+) -> Result<(), Fail> {
+    for (records, expected) in cases {
+        check_eq(number(rt, &[(1, start), (1, records)])?, *expected)?;
+    }
+    Ok(())
 }
