@@ -1,28 +1,24 @@
 -- From the faults of the items to the judgement of the graph.
 use mathlib.Core.Path.{_≡_, refl, sym, ap, subst, _∙_}
-use mathlib.Core.Bool.{Bool, true, false, cond, _||_}
-use mathlib.Core.List.{List, [], _∷_}
+use mathlib.Core.Bool.{false}
+use mathlib.Core.List.{List}
 use mathlib.Core.Logic.{_⊎_, inl, inr}
-use Prim.Native.Nat.{ℕ, _+_, _≤_, _<_}
+use Prim.Native.Nat.{ℕ, _≤_, _<_}
 use native.Mathlib.Omega.{arith}
-use lib.Dec.{ltb}
 use lib.ListN.{length}
 use Rattle.std.specs.Finite.{nth}
 use Rattle.std.specs.Orderings.{Decides}
 use Rattle.std.specs.declared.option.Option.{Option}
 use Rattle.std.specs.declared.option.Option.the-variants.{Some, None}
 use Rattle.std.proofs.shelf.Ways.{decides-ltb, decides-or, not-from-decides}
-use Rattle.model.specs.declared.graph.Node.{Node}
-use Rattle.model.specs.declared.graph.Edge.{Edge}
-use Rattle.model.specs.declared.graph.Fact.{Fact}
 use Rattle.model.specs.declared.refusal.Refusal.{Refusal}
 use Rattle.model.specs.declared.refusal.Refusal.the-variants.{TooShort, BadVersion, BadLength, BadRecord, UnknownKind, UnknownScope, NoScope, OverLimit, BadPasses, BadFigure, Missing, NotForward, NegativeWeight, CallRing, BadFact, NotABlock, NoFact, ShortWork, ShortTrail, NoRun}
 use Rattle.model.specs.Graph.{Scope, in-scope, node-at, edge-at, fact-at}
 use Rattle.model.specs.Numbers.{number}
-use Rattle.model.specs.Rules.{Some-in, TooMany, Ring, Breaks, FirstBroken, Judged}
-use Rattle.rules.specs.Faults.{lower, found, lowest, node-fault, edge-fault, fact-fault, node-finding, edge-finding, fact-finding, scope-fault, scope-finding, too-many, over}
+use Rattle.model.specs.Rules.{Some-in, TooMany, Ring, Breaks, Judged}
+use Rattle.rules.specs.Faults.{lower, found, lowest, node-fault, edge-fault, fact-fault, scope-fault, scope-finding, too-many, over}
 use Rattle.rules.proofs.Items.{PassesBreak, NodeBreaks, EdgeBreaks, FactBreaks, least-passes, least-node, least-edge, least-fact}
-use Rattle.rules.proofs.Lowest.{Least, least-like, least-join, least-lowest, least-found, least-if}
+use Rattle.rules.proofs.Lowest.{Least, least-like, least-join, least-lowest, least-found}
 use Rattle.rules.proofs.Rows.{nth-below}
 
 -- what a scope breaks
@@ -147,47 +143,9 @@ judged : (g : List Scope) (r : Option Refusal) → Least (Breaks g) r → Judged
 judged g None h = h
 judged g (Some x) h = record { broken = h .0; smallest = h .1 }
 
--- of a smaller number there is only the rule that there is a scope
-smaller : (g : List Scope) (y : Refusal) → number y < 22 → Breaks g y → (21 ≤ number y) × (length g ≡ 0)
-smaller g NoScope h w = (omega arith, w)
-smaller g OverLimit h w = absurd (omega arith)
-smaller g BadPasses h w = absurd (omega arith)
-smaller g BadFigure h w = absurd (omega arith)
-smaller g Missing h w = absurd (omega arith)
-smaller g NotForward h w = absurd (omega arith)
-smaller g NegativeWeight h w = absurd (omega arith)
-smaller g CallRing h w = absurd (omega arith)
-smaller g BadFact h w = absurd (omega arith)
-smaller g NotABlock h w = absurd w
-smaller g NoFact h w = absurd w
-smaller g ShortWork h w = absurd w
-smaller g ShortTrail h w = absurd w
-smaller g NoRun h w = absurd w
-smaller g TooShort h w = absurd w
-smaller g BadVersion h w = absurd w
-smaller g BadLength h w = absurd w
-smaller g BadRecord h w = absurd w
-smaller g UnknownKind h w = absurd w
-smaller g UnknownScope h w = absurd w
-
-pub judged-empty : (g : List Scope) → length g ≡ 0 → Judged g (Some NoScope)
-judged-empty g e =
-    record { broken = e; smallest = λ y h w. let s = smaller g y (omega arith) w in omega (arith, s .0) }
-
 decides-many : (s : Scope) → Decides (too-many s) (TooMany s)
 decides-many s =
     decides-or _ _ (decides-ltb 32 (length (s .nodes))) (decides-or _ _ (decides-ltb 96 (length (s .edges))) (decides-ltb 4 (length (s .facts))))
-
-over-limit : (o : Option Scope) → over o ≡ true → (s : Scope) × (o ≡ Some s) × TooMany s
-over-limit None e = let z : _≡_ {A = ℕ} 0 1 = cc in absurd (omega arith)
-over-limit (Some s) e = (s, refl, decides-many s .0 e)
-
-pub judged-over : (g : List Scope) (n : ℕ) → 0 < length g → (16 < length g) ⊎ ((k : ℕ) × (k < n) × (over (nth g k) ≡ true)) → Judged g (Some OverLimit)
-judged-over g n h w =
-    record {
-      broken = elim w [ inl p ↦ inl p | inr q ↦ let v = over-limit (nth g (q .0)) (q .2) in inr (q .0, v .0, v .1, v .2) ];
-      smallest = λ y l b. let s = smaller g y l b in omega (arith, s .1);
-    }
 
 -- no scope is over a limit
 pub none-over : (g : List Scope) → length g ≤ 16 → ((k : ℕ) → k < length g → over (nth g k) ≡ false) → Breaks g OverLimit → ⊥

@@ -1,7 +1,7 @@
 -- What a graph that keeps the rules has, item by item. Rule 21, that there is a scope, is not used.
-use mathlib.Core.Path.{_≡_, refl, sym, ap, subst, _∙_}
+use mathlib.Core.Path.{_≡_, refl, sym, subst}
 use mathlib.Core.List.{List}
-use mathlib.Core.Logic.{_⊎_, inl, inr}
+use mathlib.Core.Logic.{inl, inr}
 use Prim.Native.Nat.{ℕ, _+_, _≤_, _<_}
 use native.Mathlib.Omega.{arith}
 use lib.IntN.{ℤ, pos, negsuc, _+ℤ_}
@@ -15,7 +15,7 @@ use Rattle.std.proofs.shelf.Tests.{cases-lt}
 use Rattle.model.specs.declared.graph.Node.{Node}
 use Rattle.model.specs.declared.graph.Node.the-variants.{Block, Call}
 use Rattle.model.specs.declared.graph.Target.{Target}
-use Rattle.model.specs.declared.graph.Target.the-variants.{To, Again, Leave}
+use Rattle.model.specs.declared.graph.Target.the-variants.{To}
 use Rattle.model.specs.declared.graph.Edge.{Edge}
 use Rattle.model.specs.declared.graph.Constraint.{Constraint}
 use Rattle.model.specs.declared.graph.Constraint.the-variants.{Bar, Must, Pair}
@@ -23,7 +23,8 @@ use Rattle.model.specs.declared.graph.Fact.{Fact}
 use Rattle.model.specs.declared.refusal.Refusal.{Refusal}
 use Rattle.model.specs.declared.refusal.Refusal.the-variants.{OverLimit, BadPasses, BadFigure, Missing, NotForward, NegativeWeight, CallRing, BadFact}
 use Rattle.model.specs.Graph.{Scope}
-use Rattle.model.specs.Rules.{TimeOver, CalledMissing, TargetMissing, NodeMissing, Backward, Negative, SameNode, Ring, Keeps, KeepsFrom}
+use Rattle.model.specs.Rules.{TargetMissing, NodeMissing, Backward, SameNode, Ring, Keeps, KeepsFrom}
+use Rattle.rules.specs.CallOrders.{CalledFirst, Ordered}
 
 pub keeps-from : (g : List Scope) → Keeps g → KeepsFrom 22 g
 keeps-from g h x b w = h x w
@@ -42,6 +43,11 @@ few-scopes g kept = at-most _ _ (λ h. kept OverLimit (omega arith) (inl h))
 
 pub no-rings : (g : List Scope) → KeepsFrom 22 g → Ring g → ⊥
 no-rings g kept = kept CallRing (omega arith)
+
+-- there is an order of the scopes with called scopes first
+pub order-there : (g : List Scope) → KeepsFrom 22 g → (r : Option (List ℕ)) → Ordered g r → (order : List ℕ) × (r ≡ Some order) × CalledFirst g order
+order-there g kept None h = absurd (elim h [ inl p ↦ (let few = few-scopes g kept in omega arith) | inr p ↦ no-rings g kept p ])
+order-there g kept (Some order) h = (order, refl, h)
 
 -- of scope number i
 module _ (g : List Scope) (kept : KeepsFrom 22 g) (i : ℕ) (s : Scope) (is : nth g i ≡ Some s) where

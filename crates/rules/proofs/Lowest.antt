@@ -1,6 +1,6 @@
 -- The lowest of several findings.
-use mathlib.Core.Path.{_≡_, refl, sym, ap, subst, _∙_}
-use mathlib.Core.Bool.{Bool, true, false, cond}
+use mathlib.Core.Path.{_≡_, refl, ap, subst, _∙_}
+use mathlib.Core.Bool.{Bool, cond}
 use mathlib.Core.Logic.{_⊎_, inl, inr}
 use Prim.Native.Nat.{ℕ, zero, suc, _+_, _≤_, _<_}
 use native.Mathlib.Numerals.{add-one}
@@ -13,7 +13,7 @@ use Rattle.std.proofs.shelf.Tests.{cond-both, ltb-true, ltb-false, cases-eq}
 use Rattle.std.proofs.shelf.Ways.{not-from-decides}
 use Rattle.model.specs.declared.refusal.Refusal.{Refusal}
 use Rattle.model.specs.Numbers.{number}
-use Rattle.rules.specs.Faults.{lesser, lower, found, lowest}
+use Rattle.rules.specs.Faults.{lower, found, lowest}
 
 -- one finding more
 pub lowest-more : (f : ℕ → Option Refusal) (n : ℕ) (a b r : Option Refusal) → r ≡ lower a b → a ≡ lowest f n → b ≡ f n → r ≡ lowest f (n + 1)

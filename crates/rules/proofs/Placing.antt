@@ -1,8 +1,8 @@
 -- The scopes that are placed so far, and one more.
-use mathlib.Core.Path.{_≡_, refl, sym, ap, subst, _∙_}
+use mathlib.Core.Path.{_≡_, refl, sym, ap, _∙_}
 use mathlib.Core.Bool.{Bool, true, false, not}
 use mathlib.Core.List.{List, [], _∷_}
-use mathlib.Core.Logic.{_⊎_, inl, inr}
+use mathlib.Core.Logic.{inl, inr}
 use Prim.Native.Nat.{ℕ, zero, suc, _+_, _≤_, _<_}
 use native.Mathlib.Omega.{arith}
 use lib.ListN.{length, getD, set, replicate}
@@ -83,9 +83,6 @@ placing-none g =
 
 -- scope s is not placed, and those that it calls are: it is placed next
 module _ (g : List Scope) (order : List ℕ) (placed : List Bool) (n s : ℕ) (o : Placing g order placed n) (room : n < 16) (is : s < length g) (fits : s < 16) (new : getD placed s false ≡ false) (calls : (t : ℕ) → t < length g → Calls g s t → getD placed t false ≡ true) where
-  order′ : List ℕ
-  order′ = set order n s
-
   here : getD (set order n s) n 0 ≡ s
   here = getD-set-same order n s 0 (omega (arith, o .orders))
 
@@ -122,9 +119,6 @@ module _ (g : List Scope) (order : List ℕ) (placed : List Bool) (n s : ℕ) (o
               | inr q ↦ o .once k l (omega arith) (omega arith) (sym (old k (omega arith)) ∙ e ∙ old l (omega arith))
             ]
       ]
-
-  Precedes : ℕ → ℕ → Type 0
-  Precedes k t = (l : ℕ) × (l < k) × (getD (set order n s) l 0 ≡ t)
 
   pub placing-more : Placing g (set order n s) (set placed s true) (n + 1)
   placing-more =

@@ -1,9 +1,9 @@
 -- Scopes that reach themselves.
 use mathlib.Core.Path.{_≡_, refl, sym, ap, subst, _∙_}
 use mathlib.Core.Bool.{Bool, true, false}
-use mathlib.Core.List.{List, [], _∷_}
-use mathlib.Core.Logic.{_⊎_, inl, inr}
-use Prim.Native.Nat.{ℕ, zero, suc, _+_, _≤_, _<_}
+use mathlib.Core.List.{List}
+use mathlib.Core.Logic.{inl, inr}
+use Prim.Native.Nat.{ℕ, zero, suc, _<_}
 use native.Mathlib.Omega.{arith}
 use lib.ListN.{length, getD}
 use Rattle.std.specs.Finite.{nth}
@@ -11,8 +11,8 @@ use Rattle.std.specs.declared.option.Option.{Option}
 use Rattle.std.specs.declared.option.Option.the-variants.{Some, None}
 use Rattle.std.proofs.shelf.Tests.{cases-eq, cases-bool}
 use Rattle.model.specs.declared.graph.Node.{Node}
-use Rattle.model.specs.declared.graph.Node.the-variants.{Block, Call}
-use Rattle.model.specs.Graph.{Scope, in-scope, node-at}
+use Rattle.model.specs.declared.graph.Node.the-variants.{Call}
+use Rattle.model.specs.Graph.{Scope, in-scope}
 use Rattle.model.specs.Rules.{Calls, Reaches, directly, through, Ring}
 use Rattle.rules.specs.CallOrders.{CalledFirst}
 use Rattle.rules.proofs.Rows.{nth-below}

@@ -1,23 +1,21 @@
 -- Which scopes the nodes of a scope call, node by node.
-use mathlib.Core.Path.{_≡_, refl, sym, ap, subst, _∙_}
+use mathlib.Core.Path.{_≡_, sym, ap, subst, _∙_}
 use mathlib.Core.Bool.{Bool, true, false}
 use mathlib.Core.List.{List, [], _∷_}
-use mathlib.Core.Logic.{_⊎_, inl, inr, _≢_}
+use mathlib.Core.Logic.{inl, inr}
 use Prim.Native.Nat.{ℕ, zero, suc, _+_, _≤_, _<_}
 use native.Mathlib.Omega.{arith}
 use lib.ListN.{length, getD, set, replicate}
 use lib.Seq.{getD-set-same, getD-set-other}
 use Rattle.std.specs.Finite.{nth}
 use Rattle.std.specs.Options.{valueOr}
-use Rattle.std.specs.Orderings.{Decides}
 use Rattle.std.specs.declared.option.Option.{Option}
 use Rattle.std.specs.declared.option.Option.the-variants.{Some, None}
-use Rattle.std.proofs.shelf.Lists.{length-set, getD-replicate}
-use Rattle.std.proofs.shelf.Tests.{cases-eq, cases-lt}
+use Rattle.std.proofs.shelf.Lists.{getD-replicate}
+use Rattle.std.proofs.shelf.Tests.{cases-eq}
 use Rattle.model.specs.declared.graph.Node.{Node}
 use Rattle.model.specs.declared.graph.Node.the-variants.{Block, Call}
 use Rattle.model.specs.Graph.{Scope, in-scope, node-at, node-count}
-use Rattle.model.specs.Rules.{Calls}
 use Rattle.rules.specs.CallOrders.{callee-of, RowTo, Row}
 
 -- an item that is there has a number below the length

@@ -3,7 +3,7 @@ ghost use mathlib.Core.Path.{_≡_};
 ghost use mathlib.Core.Bool.{false};
 ghost use mathlib.Core.List.{[]};
 ghost use Prim.Native.Nat.{ℕ, _<_, _≤_};
-ghost use lib.ListN.{length, getD};
+ghost use lib.ListN.{getD};
 ghost use Rattle.std.specs.Orderings.{When};
 ghost use Rattle.model.specs.Graph.{node-at};
 ghost use Rattle.rules.specs.CallOrders.{callee-of, Row, Ready, Blocked};
