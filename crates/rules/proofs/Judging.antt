@@ -16,7 +16,7 @@ use Rattle.model.specs.declared.refusal.Refusal.the-variants.{TooShort, BadVers
 use Rattle.model.specs.Graph.{Scope, in-scope, node-at, edge-at, fact-at}
 use Rattle.model.specs.Numbers.{number}
 use Rattle.model.specs.Rules.{Some-in, TooMany, Ring, Breaks, Judged}
-use Rattle.rules.specs.Faults.{lower, found, lowest, node-fault, edge-fault, fact-fault, scope-fault, scope-finding, too-many, over}
+use Rattle.rules.specs.Faults.{lower, found, lowest, node-fault, edge-fault, fact-fault, scope-fault, scope-finding, too-many, over, WithinLimits}
 use Rattle.rules.proofs.Items.{PassesBreak, NodeBreaks, EdgeBreaks, FactBreaks, least-passes, least-node, least-edge, least-fact}
 use Rattle.rules.proofs.Lowest.{Least, least-like, least-join, least-lowest, least-found}
 use Rattle.rules.proofs.Rows.{nth-below}
@@ -147,21 +147,18 @@ decides-many : (s : Scope) → Decides (too-many s) (TooMany s)
 decides-many s =
     decides-or _ _ (decides-ltb 32 (length (s .nodes))) (decides-or _ _ (decides-ltb 96 (length (s .edges))) (decides-ltb 4 (length (s .facts))))
 
--- no scope is over a limit
-pub none-over : (g : List Scope) → length g ≤ 16 → ((k : ℕ) → k < length g → over (nth g k) ≡ false) → Breaks g OverLimit → ⊥
-none-over g h each w = elim w [
-  | inl p ↦ omega arith
-  | inr q ↦ not-from-decides (too-many (q .1)) (decides-many (q .1)) (ap over (sym (q .2)) ∙ each (q .0) (nth-below g (q .0) (q .1) (q .2))) (q .3)
+-- no limit is broken
+under : (g : List Scope) → WithinLimits g → Breaks g OverLimit → ⊥
+under g size w = elim w [
+  | inl p ↦ (let few = size .1 in omega arith)
+  | inr q ↦ not-from-decides (too-many (q .1)) (decides-many (q .1)) (ap over (sym (q .2)) ∙ size .2 (q .0) (nth-below g (q .0) (q .1) (q .2))) (q .3)
 ]
 
-least-rest : (g : List Scope) → 0 < length g → (Breaks g OverLimit → ⊥) → (r : Option Refusal) → Least (Rest g) r → Judged g r
-least-rest g h under r l = judged g r (least-like (Rest g) (Breaks g) (rest-broken g) (broken-rest g (λ e. omega arith) under) r l)
+least-rest : (g : List Scope) → WithinLimits g → (r : Option Refusal) → Least (Rest g) r → Judged g r
+least-rest g size r l = judged g r (least-like (Rest g) (Breaks g) (rest-broken g) (broken-rest g (size .0) (under g size)) r l)
 
--- past the first two rules, of a graph with n scopes
-module _ (g : List Scope) (n : ℕ) (count : n ≡ length g) (some : n ≡ 0 → ⊥) (few : n ≤ 16) (under : (k : ℕ) → k < n → over (nth g k) ≡ false) (fault : Option Refusal) (is : fault ≡ lowest (scope-finding g n) n) where
-  limits : Breaks g OverLimit → ⊥
-  limits = none-over g (omega arith) (λ k h. under k (omega arith))
-
+-- a graph within its limits is judged by its scopes and their calls
+module _ (g : List Scope) (size : WithinLimits g) (n : ℕ) (count : n ≡ length g) (fault : Option Refusal) (is : fault ≡ lowest (scope-finding g n) n) where
   least-fault : Least (λ x. Some-in g (λ s. ScopeBreaks g s x)) fault
   least-fault =
       let P : Option Refusal → Type 0 = Least (λ x. Some-in g (λ s. ScopeBreaks g s x)) in
@@ -170,8 +167,8 @@ module _ (g : List Scope) (n : ℕ) (count : n ≡ length g) (some : n ≡ 0 →
   pub judged-ring : Ring g → (r : Option Refusal) → r ≡ lower fault (Some CallRing) → Judged g r
   judged-ring ring r e =
       let P : Option Refusal → Type 0 = Judged g in
-      subst P (sym e) (least-rest g (omega arith) limits _ (least-join _ (λ x. (x ≡ CallRing) × Ring g) _ (Some CallRing) least-fault ((refl, ring), λ y l w. omega (arith, ap number (w .0)))))
+      subst P (sym e) (least-rest g size _ (least-join _ (λ x. (x ≡ CallRing) × Ring g) _ (Some CallRing) least-fault ((refl, ring), λ y l w. omega (arith, ap number (w .0)))))
 
   pub judged-no-ring : (Ring g → ⊥) → Judged g fault
   judged-no-ring ring =
-      least-rest g (omega arith) limits _ (least-like _ (Rest g) (λ x w. inl w) (λ x w. elim w [ inl v ↦ v | inr v ↦ absurd (ring (v .1)) ]) _ least-fault)
+      least-rest g size _ (least-like _ (Rest g) (λ x w. inl w) (λ x w. elim w [ inl v ↦ v | inr v ↦ absurd (ring (v .1)) ]) _ least-fault)

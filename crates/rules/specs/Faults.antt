@@ -1,7 +1,8 @@
 -- What is wrong with one item of a graph: the broken rule of the smallest number, if any.
 use mathlib.Core.Bool.{Bool, false, cond, _||_}
 use mathlib.Core.List.{List}
-use Prim.Native.Nat.{ℕ, zero, suc}
+use mathlib.Core.Path.{_≡_}
+use Prim.Native.Nat.{ℕ, zero, suc, _≤_, _<_}
 use lib.Dec.{eqb, leb, ltb}
 use lib.ListN.{length}
 use lib.IntN.{ℤ, pos, negsuc, _+ℤ_}
@@ -20,6 +21,7 @@ use Rattle.model.specs.declared.refusal.Refusal.{Refusal}
 use Rattle.model.specs.declared.refusal.Refusal.the-variants.{BadPasses, BadFigure, Missing, NotForward, NegativeWeight, BadFact}
 use Rattle.model.specs.Graph.{Scope, in-scope, node-at, edge-at, fact-at}
 use Rattle.model.specs.Numbers.{number}
+use Rattle.model.specs.Rules.{FirstBroken}
 use Rattle.std.specs.Finite.{nth}
 
 -- the one of the smaller number
@@ -117,3 +119,12 @@ too-many s = ltb 32 (length (s .nodes)) || (ltb 96 (length (s .edges)) || ltb 4 
 abbrev pub over : Option Scope → Bool
 over None = false
 over (Some s) = too-many s
+
+-- the graph has scopes, and no more of anything than it may have
+abbrev pub WithinLimits : List Scope → Type 0
+WithinLimits g = (length g ≡ 0 → ⊥) × (length g ≤ 16) × ((k : ℕ) → k < length g → over (nth g k) ≡ false)
+
+-- the first two rules: a graph breaks one of them, or is within its limits
+abbrev pub Sized : List Scope → Option Refusal → Type 0
+Sized g None = WithinLimits g
+Sized g (Some x) = FirstBroken g x

@@ -6,7 +6,7 @@ ghost use lib.ListN.{length};
 ghost use Rattle.std.specs.Finite.{nth};
 ghost use Rattle.std.specs.Orderings.{When};
 ghost use Rattle.model.specs.Rules.{Ring, Judged};
-ghost use Rattle.rules.specs.Faults.{over, lowest, scope-finding};
+ghost use Rattle.rules.specs.Faults.{over, lowest, scope-finding, Sized};
 use crate::item::lower;
 use crate::limits::SCOPES;
 use crate::order::call_order;
@@ -48,18 +48,28 @@ fn has_ring<G: ScopeGraph>(graph: &G) -> bool
     }
 }
 
-// The limits come first: past them a graph is small, and each of its items is looked at.
-pub fn first_broken<G: ScopeGraph>(graph: &G) -> Option<Refusal>
-    ensures { λ r. ⌜ Judged (G·ScopeGraph .graph (now (graph .entry))) r ⌝ }
+// The rules of size: past them a graph is small, and each of its items can be looked at.
+fn size_fault<G: ScopeGraph>(graph: &G) -> Option<Refusal>
+    ensures { λ r. ⌜ Sized (G·ScopeGraph .graph (now (graph .entry))) r ⌝ }
 {
     let scopes = graph.scopes();
     if scopes == 0 {
-        return Some(Refusal::NoScope);
+        Some(Refusal::NoScope)
+    } else if scopes > SCOPES || some_over_limit(graph, scopes) {
+        Some(Refusal::OverLimit)
+    } else {
+        None
     }
-    if scopes > SCOPES || some_over_limit(graph, scopes) {
-        return Some(Refusal::OverLimit);
+}
+
+// The broken rule of the smallest number in a graph, if any is broken.
+pub fn first_broken<G: ScopeGraph>(graph: &G) -> Option<Refusal>
+    ensures { λ r. ⌜ Judged (G·ScopeGraph .graph (now (graph .entry))) r ⌝ }
+{
+    if let Some(fault) = size_fault(graph) {
+        return Some(fault);
     }
-    let fault = scope_faults(graph, scopes);
+    let fault = scope_faults(graph, graph.scopes());
     if has_ring(graph) {
         lower(fault, Some(Refusal::CallRing))
     } else {
