@@ -1,4 +1,5 @@
--- What is wrong with one item of a graph: the broken rule of the smallest number, if any.
+-- What the inner functions find in an item, a scope or a graph: the broken rule of the smallest number, if any.
+-- The rules themselves are defined in the model; that these findings are theirs is proved.
 use mathlib.Core.Bool.{Bool, false, cond, _||_}
 use mathlib.Core.List.{List}
 use mathlib.Core.Path.{_≡_}
