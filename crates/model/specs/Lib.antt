@@ -3,6 +3,7 @@ pub mod Counts
 pub mod Graph
 pub mod Measures
 pub mod Numbers
+pub mod Rules
 pub mod Runs
 pub mod Trail
 pub mod Ways

@@ -1,0 +1,7 @@
+mod Items
+mod Judging
+pub mod Kept
+mod Lowest
+mod Placing
+mod Rings
+mod Rows

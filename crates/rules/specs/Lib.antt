@@ -1,0 +1,2 @@
+pub mod CallOrders
+pub mod Faults
