@@ -2,8 +2,11 @@ pub mod Bests
 pub mod Cuts
 pub mod Facts
 pub mod Fronts
+pub mod Kept
 pub mod Lifting
 pub mod Passes
 pub mod Powers
 pub mod Ranges
+pub mod Scopes
 pub mod Shown
+pub mod Tables

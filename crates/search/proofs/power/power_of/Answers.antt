@@ -18,11 +18,11 @@ loop-left-again g c =
     let l = c .loop-left in
     elim (c .if-left-eq1 .came) [
       | then-left-eq1 w ↦
-        rw (w .sum-is, w .join-sum .ensures, c .join-square .ensures)
-        (odd-turn laws (l .sum) (l .square) (l .left) (l .left / 2) (omega (arith, w .if-left-eq1 .taken)) ∙ l .inv)
+          rw (w .sum-is, w .join-sum .ensures, c .join-square .ensures)
+          (odd-turn laws (l .sum) (l .square) (l .left) (l .left / 2) (omega (arith, w .if-left-eq1 .taken)) ∙ l .inv)
       | else-left-eq1 w ↦
-        rw (w .sum-is, c .join-square .ensures)
-        (even-turn laws (l .sum) (l .square) (l .left) (l .left / 2) (omega (arith, w .if-left-eq1 .left)) ∙ l .inv)
+          rw (w .sum-is, c .join-square .ensures)
+          (even-turn laws (l .sum) (l .square) (l .left) (l .left / 2) (omega (arith, w .if-left-eq1 .left)) ∙ l .inv)
     ]
 
 pub returns : need.returns
