@@ -1,5 +1,6 @@
 // The costliest pass through a scope, within passes that have the same facts in force.
 // An edge is known here by its start, its target and its value alone.
+pub mod answers;
 pub mod costliest;
 mod demand;
 pub mod ending;

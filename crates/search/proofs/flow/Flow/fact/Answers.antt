@@ -1,0 +1,10 @@
+use mathlib.Core.Path.{sym}
+use native.Mathlib.Omega.{arith}
+use Rattle.search.proofs.Held.{taken-read, taken-past}
+use Rattle.search.proofs.flow.Flow.fact.Needs as need
+
+pub returns-then-i-self : need.returns-then-i-self
+returns-then-i-self c = let f = c .args .self .now in sym (taken-read (f .facts .len) (f .facts .items) (c .args .i) _ (c .if-i-self .taken) (omega (arith, f .widefacts, f .fewfacts)))
+
+pub returns-else-i-self : need.returns-else-i-self
+returns-else-i-self c = let f = c .args .self .now in sym (taken-past (f .facts .len) (f .facts .items) (c .args .i) (c .if-i-self .left))
