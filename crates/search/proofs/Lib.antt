@@ -1,12 +1,12 @@
-mod Chains
-mod Fills
-mod Followed
-mod Forwards
-mod Granted
-mod Held
-mod Lefts
-mod Rounded
-mod Splits
-mod Squares
-mod Steps
-mod Walked
+pub mod Chains
+pub mod Fills
+pub mod Followed
+pub mod Forwards
+pub mod Granted
+pub mod Held
+pub mod Lefts
+pub mod Rounded
+pub mod Splits
+pub mod Squares
+pub mod Steps
+pub mod Walked

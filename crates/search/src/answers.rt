@@ -12,14 +12,22 @@ impl Flow {
     pub fn edge(&self, i: usize) -> Option<Edge>
         ensures { λ r. ⌜ r ≡ nth (edges-of (now (self .entry))) i ⌝ }
     {
-        if i < self.edges.len { Some(self.edges.items[i]) } else { None }
+        if i < self.edges.len {
+            Some(self.edges.items[i])
+        } else {
+            None
+        }
     }
 
     // Fact number i.
     pub fn fact(&self, i: usize) -> Option<Fact>
         ensures { λ r. ⌜ r ≡ nth (facts-of (now (self .entry))) i ⌝ }
     {
-        if i < self.facts.len { Some(self.facts.items[i]) } else { None }
+        if i < self.facts.len {
+            Some(self.facts.items[i])
+        } else {
+            None
+        }
     }
 
     // How many facts there are.

@@ -1,0 +1,4 @@
+// A scope copied out of its graph, once, into plain arrays.
+pub mod called;
+pub mod plain_scope;
+mod rows;
