@@ -1,1 +1,3 @@
+pub mod Candidates
+pub mod CutCounts
 pub mod Turns

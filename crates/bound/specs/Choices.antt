@@ -1,8 +1,9 @@
 -- Choices of a number of passes.
 use mathlib.Core.Path.{_≡_}
 use mathlib.Core.Bool.{cond}
-use mathlib.Core.List.{List}
+use mathlib.Core.List.{List, [], _∷_}
 use Prim.Native.Nat.{ℕ, suc, _-_, _≤_, _<_}
+use lib.Dec.{ltb}
 use Rattle.std.specs.Finite.{nth}
 use Rattle.std.specs.declared.option.Option.{Option}
 use Rattle.std.specs.declared.option.Option.the-variants.{Some, None}
@@ -15,6 +16,9 @@ use Rattle.model.specs.Trail.{Group, AreRanges, IsRange, unrolled}
 use Rattle.model.specs.Ways.{AreValues, AreBest, IsPassWay, AreFrontWays, way-cost}
 use Rattle.search.specs.Ways.{way-edges}
 use Rattle.bound.specs.declared.choice.Choice.{Choice}
+
+abbrev pub group : ℕ → ℕ → List ℕ → Group
+group first last way = record { first = first; last = last; way = way }
 
 abbrev pub choice-cost : {C : Type 0} → Option (Choice C) → Option C
 choice-cost None = None
@@ -50,3 +54,8 @@ pub record IsChoice {C : Type 0} (m : Measure C) (s : Scope) (value : ℕ → Op
   pub leave-cost : way-cost m value (way-edges (x .off)) ≡ Some off-cost
   pub costs : x .cost ≡ m .join (m .join front-cost (power m on-cost (x .passes - suc d))) off-cost
   pub least : s .least ≤ x .passes
+
+-- the groups of the range that the last pass stands in: those before it, if there are any, and the pass itself
+abbrev pub last-groups : ℕ → ℕ → List ℕ → List ℕ → List Group
+last-groups first passes on off =
+    cond (ltb first passes) (group first (passes - 1) on ∷ group passes passes off ∷ []) (group passes passes off ∷ [])
