@@ -1,0 +1,1 @@
+// The worst-case analysis of a graph.
