@@ -92,3 +92,49 @@ module _ {C : Type 0} {m : Measure C} (laws : Laws m) (g : List Scope) (work : L
       are-values inside =
           value-right m g s (λ t. gate (getD solved t false) (nth work t))
           (λ n t q. let w = called n t q in settled-best t (inside n t q) (subst (Settled m g work trail solved) (w .2) (settled (w .0) (w .1))))
+
+-- one scope more is settled; the tables change only at its number
+module _ {C : Type 0} {m : Measure C} (laws : Laws m) (g : List Scope) (order : List ℕ) (first : CalledFirst g order)
+    (inside : (j : ℕ) (s : Scope) → nth g j ≡ Some s → (n t : ℕ) → nth (s .nodes) n ≡ Some (Call t) → t < length g)
+    (work work′ : List C) (trail trail′ : List Line) (solved solved′ : List Bool) (k : ℕ) (within : k < length g)
+    (same-section : (j : ℕ) → j < length g → (j ≡ getD order k 0 → ⊥) → section trail′ j ≡ section trail j)
+    (same-work : (j : ℕ) → (j ≡ getD order k 0 → ⊥) → getD work′ j (m .nothing) ≡ getD work j (m .nothing))
+    (same-mark : (j : ℕ) → (j ≡ getD order k 0 → ⊥) → getD solved′ j false ≡ getD solved j false)
+    (settled : AreSettled m g work trail solved order k) where
+  abbrev Before : ℕ → Type 0
+  Before t = (l : ℕ) × (l < k) × (getD order l 0 ≡ t)
+
+  other : (t : ℕ) → Before t → t ≡ getD order k 0 → ⊥
+  other t (l, h, e) q = let z = first .once l k (omega arith) within (e ∙ q) in omega arith
+
+  below : (t : ℕ) → Before t → t < length g
+  below t (l, h, e) = subst (λ j. j < length g) e (first .within l (omega arith))
+
+  closed : (i : ℕ) (s : Scope) → Before i → nth g i ≡ Some s → CallsIn Before s
+  closed i s (l, h, e) there n t q =
+      let w = called-before g order first l s (omega arith) (subst (λ j. nth g j ≡ Some s) (sym e) there) (inside i s there) n t q in
+      (w .0, omega (arith, w .1), w .2)
+
+  pub settled-kept : AreSettled m g work′ trail′ solved′ order k
+  settled-kept l h = go (settled l h)
+    where
+      p : Before (getD order l 0)
+      p = (l, h, refl)
+
+      go : Settled m g work trail solved (getD order l 0) → Settled m g work′ trail′ solved′ (getD order l 0)
+      go (inl (q, w)) =
+          inl (same-mark (getD order l 0) (other (getD order l 0) p) ∙ q, solved-kept g trail trail′ Before closed (λ j r. same-section j (below j r) (other j r)) m work work′ (getD order l 0) p (same-work (getD order l 0) (other (getD order l 0) p)) w)
+      go (inr (q, w)) =
+          inr (same-mark (getD order l 0) (other (getD order l 0) p) ∙ q, unsolvable-kept g trail trail′ Before closed (λ j r. same-section j (below j r) (other j r)) m work work′ (getD order l 0) p (same-work (getD order l 0) (other (getD order l 0) p)) w)
+
+-- the scope at place k joins them
+pub settled-more : {C : Type 0} (m : Measure C) (g : List Scope) (work : List C) (trail : List Line) (solved : List Bool) (order : List ℕ) (k : ℕ) →
+    AreSettled m g work trail solved order k → Settled m g work trail solved (getD order k 0) → AreSettled m g work trail solved order (k + 1)
+settled-more m g work trail solved order k old new l h =
+    ⊎-elim (λ q. old l q) (λ q. let e : k ≡ l = omega arith in subst (λ j. Settled m g work trail solved (getD order j 0)) e new) (cases-lt l k)
+
+-- all scopes are settled
+pub settled-all : {C : Type 0} (m : Measure C) (g : List Scope) (work : List C) (trail : List Line) (solved : List Bool) (order : List ℕ) → CalledFirst g order →
+    AreSettled m g work trail solved order (length g) → (i : ℕ) → i < length g → Settled m g work trail solved i
+settled-all m g work trail solved order first settled i h =
+    let w = first .placed i h in subst (Settled m g work trail solved) (w .2) (settled (w .0) (w .1))
