@@ -1,3 +1,4 @@
 pub mod Candidates
 pub mod CutCounts
+pub mod RangeEnds
 pub mod Turns

@@ -24,13 +24,7 @@ pub fn powers_of<C: Cost>(cost: Option<C>, times: u32) -> Option<C>
 {
     match cost {
         Some(c) => Some(power_of(c, times)),
-        None => {
-            if times == 0 {
-                Some(C::nothing())
-            } else {
-                None
-            }
-        }
+        None => { if times == 0 { Some(C::nothing()) } else { None } }
     }
 }
 
@@ -48,12 +42,6 @@ pub fn better_of<C: Cost>(a: Option<Choice<C>>, b: Option<Choice<C>>) -> Option<
     match (a, b) {
         (None, _) => b,
         (Some(_), None) => a,
-        (Some(x), Some(y)) => {
-            if x.cost.at_most(y.cost) {
-                b
-            } else {
-                a
-            }
-        }
+        (Some(x), Some(y)) => { if x.cost.at_most(y.cost) { b } else { a } }
     }
 }
