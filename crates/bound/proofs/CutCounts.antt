@@ -10,17 +10,12 @@ use lib.ListN.{length}
 use Rattle.std.proofs.shelf.Tests.{cases-lt, lt-ltb, le-ltb}
 use Rattle.model.specs.declared.graph.Fact.{Fact}
 use Rattle.model.specs.Trail.{SameFacts}
-
--- 1 if a is below b
-one-if : ℕ → ℕ → ℕ
-one-if a b = cond (ltb a b) 1 0
+use Rattle.bound.specs.Ranges.{one-if, cuts}
 
 one : (a b : ℕ) → a < b → one-if a b ≡ 1
-unfolding one-if
 one a b h = rw (lt-ltb a b h) refl
 
 none : (a b : ℕ) → b ≤ a → one-if a b ≡ 0
-unfolding one-if
 none a b h = rw (le-ltb a b h) refl
 
 one-most : (a b : ℕ) → one-if a b ≤ 1
@@ -29,18 +24,11 @@ one-most a b = ⊎-elim (λ h. let q = one a b h in omega arith) (λ h. let q = 
 one-falls : (a c b : ℕ) → a ≤ c → one-if c b ≤ one-if a b
 one-falls a c b h = ⊎-elim (λ l. let p = one c b l in let q = one a b (omega arith) in omega arith) (λ l. let p = none c b l in omega arith) (cases-lt c b)
 
--- how many ends of facts lie behind pass d: passes before a fact's first, and its last
-pub cuts : List Fact → ℕ → ℕ
-cuts [] d = 0
-cuts (f ∷ fs) d = (one-if (suc d) (f .first) + one-if d (f .last)) + cuts fs d
-
 pub cuts-most : (fs : List Fact) (d : ℕ) → cuts fs d ≤ 2 * length fs
-unfolding cuts
 cuts-most [] d = omega arith
 cuts-most (f ∷ fs) d = let a = one-most (suc d) (f .first) in let b = one-most d (f .last) in let r = cuts-most fs d in omega arith
 
 cuts-falls : (fs : List Fact) (d e : ℕ) → d ≤ e → cuts fs e ≤ cuts fs d
-unfolding cuts
 cuts-falls [] d e h = omega arith
 cuts-falls (f ∷ fs) d e h = let a = one-falls (suc d) (suc e) (f .first) (omega arith) in let b = one-falls d e (f .last) h in let r = cuts-falls fs d e h in omega arith
 
@@ -59,7 +47,6 @@ cut-one f d b h =
     ends k q = let p = none b (f .last) q in let r = one d (f .last) (omega arith) in let t = one-falls (suc d) (suc b) (f .first) (omega arith) in omega arith
 
 cuts-step : (fs : List Fact) (d b : ℕ) → d < b → SameFacts fs b (b + 1) ⊎ (cuts fs b < cuts fs d)
-unfolding cuts
 cuts-step [] d b h = inl tt
 cuts-step (f ∷ fs) d b h =
     ⊎-elim

@@ -1,4 +1,5 @@
 pub mod Candidates
 pub mod CutCounts
+pub mod Progressing
 pub mod RangeEnds
 pub mod Turns

@@ -32,7 +32,7 @@ pub no-copies : {C : Type 0} (m : Measure C) (j : ℕ) → (j ≡ 0 → ⊥) →
 no-copies m zero h = absurd (h refl)
 no-copies m (suc j) h = refl
 
-better-cost : {C : Type 0} (m : Measure C) (x y : Option (Choice C)) → choice-cost (better-choice m x y) ≡ better m (choice-cost x) (choice-cost y)
+pub better-cost : {C : Type 0} (m : Measure C) (x y : Option (Choice C)) → choice-cost (better-choice m x y) ≡ better m (choice-cost x) (choice-cost y)
 better-cost m None y = refl
 better-cost m (Some x) None = refl
 better-cost m (Some x) (Some y) = go (m .leq (x .cost) (y .cost))
