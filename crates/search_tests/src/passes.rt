@@ -87,13 +87,9 @@ fn branches() -> Result<(), Fail> {
             edge(3, Target::Leave, 0),
         ],
     };
-    let cases: [(Constraint, Expected<'_>, Expected<'_>); 8] = [
-        // of no node
-        (
-            Bar(9),
-            (Some((13, 40)), &[0, 2, 4]),
-            (Some((14, 40)), &[0, 2, 5]),
-        ),
+    check_both(graph, &[], ALL, Again, (Some((13, 40)), &[0, 2, 4]))?;
+    check_both(graph, &[], ALL, Leave, (Some((14, 40)), &[0, 2, 5]))?;
+    let cases: [(Constraint, Expected<'_>, Expected<'_>); 7] = [
         (
             Bar(1),
             (Some((9, 16)), &[1, 3, 4]),
