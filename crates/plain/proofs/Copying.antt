@@ -20,6 +20,10 @@ use Rattle.search.specs.Flows.{edges-of, facts-of, Prepared}
 use Rattle.plain.specs.declared.rows.NodeRow.{NodeRow}
 use Rattle.plain.specs.Copies.{Taken, NodesCopied}
 
+pub some-there : {A : Type 0} (xs : List A) (k : ℕ) → None ≡ nth xs k → k < length xs → ⊥
+some-there [] k e h = omega arith
+some-there (x ∷ xs) k e h = none-some (e ∙ nth-getD (x ∷ xs) k x h)
+
 module _ {A : Type 0} (asked : ℕ → Option A) where
   -- one item more
   module _ (i : ℕ) (table : List A) (taken : Taken asked i table) where
@@ -31,10 +35,6 @@ module _ {A : Type 0} (asked : ℕ → Option A) where
 
     pub taken-past : None ≡ asked i → Taken asked (i + 1) table
     taken-past is xs same long = absurd (some-there xs i (is ∙ same i) (omega arith))
-      where
-        some-there : (ys : List A) (k : ℕ) → None ≡ nth ys k → k < length ys → ⊥
-        some-there [] k e h = omega arith
-        some-there (y ∷ ys) k e h = none-some (e ∙ nth-getD (y ∷ ys) k y h)
 
 -- of a scope that is there
 module _ {A : Type 0} (g : List Scope) (scope : ℕ) (s : Scope) (is : nth g scope ≡ Some s) (list : Scope → List A) where

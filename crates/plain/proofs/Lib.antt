@@ -1,1 +1,4 @@
+mod Bounds
 mod Copying
+mod Ends
+pub mod Weights
