@@ -69,6 +69,13 @@ pub record IsRange (s : Scope) (a b : ℕ) : Type 0 where
   pub no-earlier : (1 < a) → SameFacts (s .facts) (a - 1) a → ⊥
   pub no-later : (b < s .most) → SameFacts (s .facts) b (b + 1) → ⊥
 
+-- from pass a to b the facts fs are in force as in a, and b is the last such pass up to top
+pub record IsCut (fs : List Fact) (a top b : ℕ) : Type 0 where
+  pub low : a ≤ b
+  pub high : b ≤ top
+  pub same : (k : ℕ) → a ≤ k → k ≤ b → SameFacts fs a k
+  pub ends : b < top → SameFacts fs b (b + 1) → ⊥
+
 -- the groups of a run of p passes from pass k on: the ranges, the last cut off before pass p, and then pass p
 abbrev pub AreGroups : Scope → ℕ → ℕ → List Group → Type 0
 AreGroups s p k [] = ⊥

@@ -1,0 +1,5 @@
+mod Bounds
+mod Copying
+mod Ends
+pub mod Kept
+pub mod Weights
