@@ -18,7 +18,7 @@ use Rattle.model.specs.Measures.{Measure, Laws}
 use Rattle.model.specs.Best.{IsBest, joined, better, power}
 use Rattle.model.specs.Counts.{powers, spread, FrontCost, RunsBetween}
 use Rattle.model.specs.Runs.{Run}
-use Rattle.model.specs.Trail.{Group, SameFacts, AreRanges, IsRange, unrolled}
+use Rattle.model.specs.Trail.{Group, SameFacts, AreRanges, IsRange, IsCut, unrolled}
 use Rattle.model.specs.Ways.{RunCost, AreFrontWays}
 use Rattle.model.proofs.Bests.{none-some, some-same, best-one}
 use Rattle.model.proofs.Fronts.{front-none, runs-none, runs-stopped, runs-all}
@@ -32,7 +32,7 @@ use Rattle.search.specs.Ways.{way-edges}
 use Rattle.bound.specs.declared.choice.Choice.{Choice}
 use Rattle.bound.specs.Choices.{group, choice-cost, better-choice, IsPlaced, IsChoice}
 use Rattle.bound.specs.Progress.{made-choice, choice-of, range-choice, IsProgress}
-use Rattle.bound.specs.Ranges.{EndsRange, cuts}
+use Rattle.bound.specs.Ranges.{cuts}
 use Rattle.bound.proofs.Candidates.{candidate}
 use Rattle.bound.proofs.CutCounts.{cuts-most, cuts-fall}
 use Rattle.bound.proofs.RangeEnds.{range-from}
@@ -69,7 +69,7 @@ module _ {C : Type 0} {m : Measure C} (laws : Laws m) (s : Scope) (value : ℕ �
   }
 
   module _ (done b : ℕ) (f : C) (groups : List Group) (best : Option (Choice C)) (on off : Costliest C) (h : IsProgress m s value done (Some f) groups best) (more : done < s .most)
-      (e : EndsRange (s .facts) (suc done) (s .most) b)
+      (e : IsCut (s .facts) (suc done) (s .most) b)
       (again : IsCostliest m value (s .edges) (s .facts) (suc done) Repeat on) (leave : IsCostliest m value (s .edges) (s .facts) (suc done) Exit off) where
     range : IsRange s (suc done) b
     range = range-from s done b (λ z. h .starts z more) e

@@ -1,4 +1,3 @@
 // The bound of one scope, and the run that attains it.
 mod choice;
 mod costs;
-mod range;
