@@ -8,7 +8,6 @@ use Rattle.std.proofs.shelf.Lists.{take-more-set, take-map, take-take, take-all
 use Rattle.std.specs.Finite.{nth}
 use Rattle.std.specs.Options.{mapped}
 use Rattle.std.specs.declared.option.Option.the-variants.{Some, None}
-use Rattle.model.specs.Trail.{Group}
 use Rattle.search.proofs.Held.{taken-read, taken-past}
 use Rattle.trail.specs.declared.groups.PassGroup.{PassGroup}
 use Rattle.trail.specs.declared.groups.Groups.{Groups}
@@ -22,9 +21,16 @@ nth-map f (x ∷ xs) (suc i) = nth-map f xs i
 pub held-length : (g : Groups) → length (groups-of g) ≡ g .len
 held-length g = simp (length-map, length-take) (omega (arith, g .wide, g .short))
 
-pub held-at : (g : Groups) (i : ℕ) (d : PassGroup) → i < g .len → Some (group-of (getD (g .items) i d)) ≡ nth (groups-of g) i
-held-at g i d h =
-    sym (nth-map group-of (take (g .len) (g .items)) i ∙ ap (mapped group-of) (taken-read (g .len) (g .items) i d h (omega (arith, g .wide, g .short))))
+pub counted : (g : Groups) (n : ℕ) → n ≡ g .len → n ≡ length (groups-of g)
+counted g n e = e ∙ sym (held-length g)
+
+pub counted-few : (g : Groups) (n : ℕ) → n ≡ g .len → n ≤ 10
+counted-few g n e = omega (arith, g .short)
+
+pub held-at : (g : Groups) (i : ℕ) (x : PassGroup) → x ≡ getD (g .items) i x → i < g .len → Some (group-of x) ≡ nth (groups-of g) i
+held-at g i x e h =
+    ap (λ y. Some (group-of y)) e
+    ∙ sym (nth-map group-of (take (g .len) (g .items)) i ∙ ap (mapped group-of) (taken-read (g .len) (g .items) i x h (omega (arith, g .wide, g .short))))
 
 pub held-past : (g : Groups) (i : ℕ) → g .len ≤ i → None ≡ nth (groups-of g) i
 held-past g i h =

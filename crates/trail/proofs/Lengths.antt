@@ -1,9 +1,9 @@
 -- How many lines a section has.
 use mathlib.Core.Path.{_≡_, refl, sym, ap, _∙_}
 use mathlib.Core.List.{List, [], _∷_, _++_, map}
-use Prim.Native.Nat.{ℕ, zero, suc, _+_, _-_, _*_, _≤_, _<_}
+use Prim.Native.Nat.{ℕ, suc, _*_, _≤_}
 use native.Mathlib.Omega.{arith}
-use lib.ListN.{length, take, replicate, length-take, length-append, length-replicate, length-map}
+use lib.ListN.{length, take, length-take, length-append, length-replicate}
 use Rattle.std.proofs.shelf.Lists.{append-assoc}
 use Rattle.model.specs.Graph.{Scope}
 use Rattle.model.specs.Trail.{Group, line, way-lines, group-lines, section-lines, padded, size}
@@ -12,7 +12,6 @@ use Rattle.search.specs.Ways.{way-edges}
 use Rattle.trail.specs.declared.groups.PassGroup.{PassGroup}
 use Rattle.trail.specs.declared.groups.Groups.{Groups}
 use Rattle.trail.specs.Groups.{group-of, groups-of}
-use Rattle.trail.proofs.Held.{held-length}
 
 pub length-way : (s : Scope) (es : List ℕ) → length (way-lines s es) ≡ length es
 length-way s [] = refl

@@ -1,5 +1,5 @@
 -- The lines written so far, one step on.
-use mathlib.Core.Path.{_≡_, refl, sym, ap, _∙_}
+use mathlib.Core.Path.{_≡_, sym, ap, _∙_}
 use mathlib.Core.List.{List, [], _∷_, _++_}
 use Prim.Native.Nat.{ℕ, zero, suc, _+_, _-_, _≤_, _<_}
 use native.Mathlib.Omega.{arith}
@@ -14,29 +14,29 @@ use Rattle.model.specs.Trail.{Group, line, called, way-lines, group-lines, padd
 use Rattle.model.proofs.Bests.{none-some, some-same}
 use Rattle.trail.specs.Sections.{written}
 use Rattle.trail.proofs.Lengths.{length-way, way-lines-more, group-lines-more}
-use Rattle.trail.proofs.Written.{written-one, written-more, written-next, length-written}
+use Rattle.trail.proofs.Written.{written-one, written-more, written-next}
 
-pub nth-inside : {A : Type 0} (xs : List A) (i : ℕ) (x : A) → nth xs i ≡ Some x → i < length xs
-nth-inside [] i x h = absurd (none-some h)
+pub nth-inside : {A : Type 0} (xs : List A) (i : ℕ) (x : A) → Some x ≡ nth xs i → i < length xs
+nth-inside [] i x h = absurd (none-some (sym h))
 nth-inside (y ∷ ys) zero x h = omega arith
 nth-inside (y ∷ ys) (suc i) x h = let r = nth-inside ys i x h in omega arith
 
-pub nth-outside : {A : Type 0} (xs : List A) (i : ℕ) → nth xs i ≡ None → length xs ≤ i
+pub nth-outside : {A : Type 0} (xs : List A) (i : ℕ) → None ≡ nth xs i → length xs ≤ i
 nth-outside [] i h = omega arith
-nth-outside (y ∷ ys) zero h = absurd (none-some (sym h))
+nth-outside (y ∷ ys) zero h = absurd (none-some h)
 nth-outside (y ∷ ys) (suc i) h = let r = nth-outside ys i h in omega arith
 
-take-next : {A : Type 0} (xs : List A) (i : ℕ) (x : A) → nth xs i ≡ Some x → take (suc i) xs ≡ take i xs ++ (x ∷ [])
-take-next [] i x h = absurd (none-some h)
-take-next (y ∷ ys) zero x h = ap (λ z. z ∷ []) (some-same h)
+take-next : {A : Type 0} (xs : List A) (i : ℕ) (x : A) → Some x ≡ nth xs i → take (suc i) xs ≡ take i xs ++ (x ∷ [])
+take-next [] i x h = absurd (none-some (sym h))
+take-next (y ∷ ys) zero x h = ap (λ z. z ∷ []) (some-same (sym h))
 take-next (y ∷ ys) (suc i) x h = ap (λ l. y ∷ l) (take-next ys i x h)
 
-pub take-nth : {A : Type 0} (xs : List A) (i : ℕ) (x : A) → nth xs i ≡ Some x → take (i + 1) xs ≡ take i xs ++ (x ∷ [])
+pub take-nth : {A : Type 0} (xs : List A) (i : ℕ) (x : A) → Some x ≡ nth xs i → take (i + 1) xs ≡ take i xs ++ (x ∷ [])
 take-nth xs i x h = ap (λ n. take n xs) (add-one i) ∙ take-next xs i x h
 
 -- the line of one edge more
 pub way-step : (s : Scope) (old now : List Line) (at n : ℕ) (es : List ℕ) (e : ℕ) (x : Line) →
-    nth es n ≡ Some e → at + length es ≤ length old → x ≡ line 3 e (called s (nth (s .edges) e)) → now ≡ written old at (way-lines s (take n es)) →
+    Some e ≡ nth es n → at + length es ≤ length old → x ≡ line 3 e (called s (nth (s .edges) e)) → now ≡ written old at (way-lines s (take n es)) →
     set now (at + n) x ≡ written old at (way-lines s (take (n + 1) es))
 way-step s old now at n es e x h l is w =
     let ls = way-lines s (take n es) in
@@ -49,9 +49,21 @@ way-step s old now at n es e x h l is w =
     ∙ ap (written old at) (sym (way-lines-more s (take n es) (e ∷ [])))
     ∙ ap (λ k. written old at (way-lines s k)) (sym (take-nth es n e h))
 
--- past the last, all are taken
-pub all-taken : {A : Type 0} (xs : List A) (i : ℕ) → nth xs i ≡ None → take i xs ≡ xs
+-- past the last, all are written
+all-taken : {A : Type 0} (xs : List A) (i : ℕ) → None ≡ nth xs i → take i xs ≡ xs
 all-taken xs i h = take-all i xs (nth-outside xs i h)
+
+pub way-done : (s : Scope) (old now : List Line) (at n : ℕ) (es : List ℕ) → None ≡ nth es n → now ≡ written old at (way-lines s (take n es)) → now ≡ written old at (way-lines s es)
+way-done s old now at n es h w = w ∙ ap (λ l. written old at (way-lines s l)) (all-taken es n h)
+
+pub way-end : (at n : ℕ) (es : List ℕ) → None ≡ nth es n → n ≤ length es → at + n ≡ at + length es
+way-end at n es h l = let r = nth-outside es n h in omega arith
+
+pub groups-done : (s : Scope) (old now : List Line) (at i : ℕ) (gs : List Group) → None ≡ nth gs i → now ≡ written old at (group-lines s (take i gs)) → now ≡ written old at (group-lines s gs)
+groups-done s old now at i gs h w = w ∙ ap (λ l. written old at (group-lines s l)) (all-taken gs i h)
+
+pub groups-end : (s : Scope) (at end i : ℕ) (gs : List Group) → None ≡ nth gs i → end ≡ at + length (group-lines s (take i gs)) → end ≡ at + length (group-lines s gs)
+groups-end s at end i gs h e = e ∙ ap (λ l. at + length (group-lines s l)) (all-taken gs i h)
 
 -- a line with others behind it
 pub line-then : (old : List Line) (at : ℕ) (x : Line) (ls : List Line) → at < length old → written (set old at x) (at + 1) ls ≡ written old at (x ∷ ls)
@@ -72,27 +84,27 @@ length-group s g =
     let b = length-append (way-lines s (g .way)) [] in
     omega arith
 
-pub group-length : (s : Scope) (g : Group) (at : ℕ) → at + 1 + length (g .way) ≡ at + length (group-lines s (g ∷ []))
-group-length s g at = let a = length-group s g in omega arith
+pub group-length : (s : Scope) (g : Group) (at end : ℕ) → end ≡ at + 1 + length (g .way) → end ≡ at + length (group-lines s (g ∷ []))
+group-length s g at end e = let a = length-group s g in omega arith
 
 -- the lines of one group more
-pub group-next : (s : Scope) (gs : List Group) (i : ℕ) (x : Group) → nth gs i ≡ Some x → group-lines s (take (i + 1) gs) ≡ group-lines s (take i gs) ++ group-lines s (x ∷ [])
+pub group-next : (s : Scope) (gs : List Group) (i : ℕ) (x : Group) → Some x ≡ nth gs i → group-lines s (take (i + 1) gs) ≡ group-lines s (take i gs) ++ group-lines s (x ∷ [])
 group-next s gs i x h = ap (group-lines s) (take-nth gs i x h) ∙ group-lines-more s (take i gs) (x ∷ [])
 
-pub group-fits : (s : Scope) (gs : List Group) (i : ℕ) (x : Group) → nth gs i ≡ Some x → length (group-lines s (take i gs)) + length (group-lines s (x ∷ [])) ≤ length (group-lines s gs)
+pub group-fits : (s : Scope) (gs : List Group) (i : ℕ) (x : Group) → Some x ≡ nth gs i → length (group-lines s (take i gs)) + length (group-lines s (x ∷ [])) ≤ length (group-lines s gs)
 group-fits s gs i x h =
     let a = ap length (group-next s gs i x h) ∙ length-append (group-lines s (take i gs)) (group-lines s (x ∷ [])) in
     let b = ap (λ l. length (group-lines s l)) (sym (take-append-drop (i + 1) gs)) ∙ ap length (group-lines-more s (take (i + 1) gs) (drop (i + 1) gs)) ∙ length-append (group-lines s (take (i + 1) gs)) (group-lines s (drop (i + 1) gs)) in
     omega arith
 
-pub group-end : (s : Scope) (gs : List Group) (i : ℕ) (x : Group) (at end after : ℕ) → nth gs i ≡ Some x →
+pub group-end : (s : Scope) (gs : List Group) (i : ℕ) (x : Group) (at end after : ℕ) → Some x ≡ nth gs i →
     end ≡ at + length (group-lines s (take i gs)) → after ≡ end + length (group-lines s (x ∷ [])) → after ≡ at + length (group-lines s (take (i + 1) gs))
 group-end s gs i x at end after h e f =
     let a = ap length (group-next s gs i x h) ∙ length-append (group-lines s (take i gs)) (group-lines s (x ∷ [])) in
     omega arith
 
 pub group-step : (s : Scope) (old now after : List Line) (at end : ℕ) (gs : List Group) (i : ℕ) (x : Group) →
-    nth gs i ≡ Some x → at ≤ length old → end ≡ at + length (group-lines s (take i gs)) → now ≡ written old at (group-lines s (take i gs)) → after ≡ written now end (group-lines s (x ∷ [])) →
+    Some x ≡ nth gs i → at ≤ length old → end ≡ at + length (group-lines s (take i gs)) → now ≡ written old at (group-lines s (take i gs)) → after ≡ written now end (group-lines s (x ∷ [])) →
     after ≡ written old at (group-lines s (take (i + 1) gs))
 group-step s old now after at end gs i x h l e w f =
     let ls = group-lines s (take i gs) in

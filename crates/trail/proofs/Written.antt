@@ -1,12 +1,12 @@
 -- A list written over in parts.
-use mathlib.Core.Path.{_≡_, refl, sym, ap, _∙_}
+use mathlib.Core.Path.{_≡_, sym, ap, _∙_}
 use mathlib.Core.List.{List, [], _∷_, _++_}
-use Prim.Native.Nat.{ℕ, zero, suc, _+_, _-_, _≤_, _<_}
+use Prim.Native.Nat.{ℕ, _+_, _-_, _≤_, _<_}
 use native.Mathlib.Omega.{arith}
 use native.Mathlib.Numerals.{add-one}
-use native.Mathlib.Nat.{add-zero, add-assoc}
+use native.Mathlib.Nat.{add-zero}
 use lib.ListN.{length, take, drop, set, length-take, length-drop, length-append}
-use Rattle.std.proofs.shelf.Lists.{take-append-drop, append-assoc, append-nil, length-take-le, take-at, drop-at, drop-drop, set-split}
+use Rattle.std.proofs.shelf.Lists.{take-append-drop, append-assoc, take-at, drop-at, drop-drop, set-split}
 use Rattle.trail.specs.Sections.{written}
 
 pub written-none : {A : Type 0} (old : List A) (i : ℕ) → old ≡ written old i []

@@ -22,3 +22,4 @@ pub struct Groups {
 }
 
 pub mod edits;
+pub mod reads;

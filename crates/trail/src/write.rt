@@ -1,7 +1,7 @@
 // Writing and clearing a section of the trail table, 331 lines for each scope.
 ghost use mathlib.Core.Path.{_≡_};
 ghost use mathlib.Core.Bool.{cond};
-ghost use Prim.Native.Nat.{_+_, _*_, _≤_};
+ghost use Prim.Native.Nat.{_+_, _*_, _^_, _<_, _≤_};
 ghost use lib.Dec.{leb};
 ghost use lib.ListN.{length, replicate};
 ghost use Rattle.model.specs.Trail.{line, section-lines, padded, size};
@@ -24,7 +24,7 @@ fn has_section(lines: usize, number: usize) -> bool
 
 // Where a section ends that begins at `at`.
 fn section_end(at: usize) -> usize
-    requires { ⌜ at + size ≤ 9223372036854775807 ⌝ }
+    requires { ⌜ at + size < 2 ^ 64 ⌝ }
     ensures { λ r. ⌜ r ≡ at + size ⌝ }
 {
     at + 331

@@ -1,12 +1,10 @@
-// Making, reading and changing a list of groups.
+// Making and changing a list of groups.
 ghost use mathlib.Core.Path.{_≡_};
 ghost use mathlib.Core.Bool.{cond};
 ghost use mathlib.Core.List.{[], _∷_, _++_};
 ghost use lib.Dec.{ltb};
 ghost use Prim.Native.Nat.{_<_, _≤_};
 ghost use lib.ListN.{length, take, set};
-ghost use Rattle.std.specs.Finite.{nth};
-ghost use Rattle.std.specs.Options.{mapped};
 ghost use Rattle.trail.specs.Groups.{group-of, groups-of};
 use crate::groups::Groups;
 use crate::groups::PassGroup;
@@ -25,25 +23,6 @@ impl Groups {
         Groups {
             items: [none; 10],
             len: 0,
-        }
-    }
-
-    // How many groups there are.
-    pub fn len(&self) -> usize
-        ensures count { λ r. ⌜ r ≡ length (groups-of (now (self .entry))) ⌝ }
-        ensures few { λ r. ⌜ r ≤ 10 ⌝ }
-    {
-        self.len
-    }
-
-    // Group number i.
-    pub fn get(&self, i: usize) -> Option<PassGroup>
-        ensures { λ r. ⌜ mapped group-of r ≡ nth (groups-of (now (self .entry))) i ⌝ }
-    {
-        if i < self.len {
-            Some(self.items[i])
-        } else {
-            None
         }
     }
 
@@ -71,16 +50,16 @@ impl Groups {
         }
     }
 
-    // Another group in place i.
-    fn put(&mut self, i: usize, group: PassGroup)
-        requires { ⌜ i < 10 ⌝ }
-        ensures items { λ _. ⌜ now (self .exit) .items ≡ set (now (self .entry) .items) i group ⌝ }
+    // Another group in a place.
+    fn put(&mut self, place: usize, group: PassGroup)
+        requires { ⌜ place < 10 ⌝ }
+        ensures items { λ _. ⌜ now (self .exit) .items ≡ set (now (self .entry) .items) place group ⌝ }
         ensures len { λ _. ⌜ now (self .exit) .len ≡ now (self .entry) .len ⌝ }
     {
-        self.items[i] = group;
+        self.items[place] = group;
     }
 
-    // Another number of groups.
+    // Another number of places taken.
     fn resize(&mut self, n: usize)
         requires { ⌜ n ≤ 10 ⌝ }
         ensures items { λ _. ⌜ now (self .exit) .items ≡ now (self .entry) .items ⌝ }

@@ -1,4 +1,3 @@
-use mathlib.Core.Path.{_∙_}
 use native.Mathlib.Omega.{arith}
 use lib.ListN.{length-set}
 use Rattle.plain.specs.Copies.{scope-of}
@@ -18,5 +17,5 @@ returns c =
     let n = length-group s g in
     record {
       lines = group-written s (c .args .trail .now) _ (c .args .at) _ g (omega (arith, c .pre)) (c .group-line .ensures) (c .write-way .ensures .lines);
-      end = c .write-way .ensures .end ∙ group-length s g (c .args .at);
+      end = group-length s g (c .args .at) _ (c .write-way .ensures .end);
     }

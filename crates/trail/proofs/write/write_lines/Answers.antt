@@ -1,6 +1,6 @@
 use native.Mathlib.Omega.{arith}
 use lib.ListN.{length-set}
-use Rattle.model.specs.Trail.{line, group-lines}
+use Rattle.model.specs.Trail.{group-lines}
 use Rattle.plain.specs.Copies.{scope-of}
 use Rattle.trail.specs.Groups.{groups-of}
 use Rattle.trail.proofs.Lengths.{held-short}

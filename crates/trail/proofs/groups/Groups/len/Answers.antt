@@ -1,6 +1,5 @@
-use mathlib.Core.Path.{sym}
-use Rattle.trail.proofs.Held.{held-length}
+use Rattle.trail.proofs.Held.{counted, counted-few}
 use Rattle.trail.proofs.groups.Groups.len.Needs as need
 
 pub returns : need.returns
-returns c = record { count = sym (held-length (c .args .self .now)); few = c .args .self .now .short }
+returns c = record { count = counted (c .args .self .now) _ (c .taken .ensures); few = counted-few (c .args .self .now) _ (c .taken .ensures) }
