@@ -192,9 +192,8 @@ turned {C} {m} laws s value done b first whole f front front′ copies groups gr
     let wide : room ≡ true = ro ∙ lt-ltb (length groups) 10 (let w = h .few in omega arith) in
     let gs : groups′ ≡ groups ++ (group (suc done) b (way-edges (on .way)) ∷ []) = gr ∙ ap (λ v. cond v (groups ++ (group first b (way-edges (on .way)) ∷ [])) groups) wide ∙ ap (λ a. groups ++ (group a b (way-edges (on .way)) ∷ [])) e in
     let fs : front′ ≡ joined m (Some f) (powers m (on .cost) (b - done)) = fr ∙ ap (joined m (Some f)) co in
-    let bs : best′ ≡ better-choice m best (range-choice m (s .least) f on off (suc done) b (length groups)) = be ∙ ap (better-choice m best) (fo ∙ ap₂ (λ a w. range-choice m (s .least) f on off a b w) e count) in
-    (
+    let bs : best′ ≡ better-choice m best (range-choice m (s .least) f on off (suc done) b (length groups)) = be ∙ ap (better-choice m best) (fo ∙ ap₂ (λ a w. range-choice m (s .least) f on off a b w) e count) in (
       (let w = cut′ .low in omega arith),
       subst (λ o. IsProgress m s value b o groups′ best′) (sym fs) (subst (λ o. IsProgress m s value b (joined m (Some f) (powers m (on .cost) (b - done))) o best′) (sym gs)
-        (subst (λ o. IsProgress m s value b (joined m (Some f) (powers m (on .cost) (b - done))) (groups ++ (group (suc done) b (way-edges (on .way)) ∷ [])) o) (sym bs) p)),
+          (subst (λ o. IsProgress m s value b (joined m (Some f) (powers m (on .cost) (b - done))) (groups ++ (group (suc done) b (way-edges (on .way)) ∷ [])) o) (sym bs) p)),
     )

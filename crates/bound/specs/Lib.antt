@@ -1,3 +1,4 @@
 pub mod Choices
 pub mod Progress
 pub mod Ranges
+pub mod Solves

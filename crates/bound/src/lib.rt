@@ -2,4 +2,5 @@
 mod choice;
 mod costs;
 mod progress;
+mod solve;
 mod turn;

@@ -35,7 +35,10 @@ fn pass_with<C: Cost, V: EdgeValues<C>>(
 {
     match scope.flow.costliest(values, pass, ending, table) {
         Some(found) => found,
-        None => Costliest { cost: None, way: Way::new() },
+        None => Costliest {
+            cost: None,
+            way: Way::new(),
+        },
     }
 }
 
@@ -52,7 +55,14 @@ fn choice_at<C: Cost>(
     ensures { λ r. ⌜ r ≡ choice-of measure front on off first whole passes ⌝ }
 {
     let cost = spread_of(front, on.cost, off.cost, u32::from(passes - first))?;
-    Some(Choice { cost, passes, whole, first, on: on.way, off: off.way })
+    Some(Choice {
+        cost,
+        passes,
+        whole,
+        first,
+        on: on.way,
+        off: off.way,
+    })
 }
 
 // The better of the two ends of a range, if it reaches the least number of passes.
@@ -72,7 +82,10 @@ fn choice_in<C: Cost>(
         return None;
     }
     let low = least.max(first);
-    better_of(choice_at(front, on, off, first, whole, low), choice_at(front, on, off, first, whole, last))
+    better_of(
+        choice_at(front, on, off, first, whole, low),
+        choice_at(front, on, off, first, whole, last),
+    )
 }
 
 fn next_pass(done: u16, most: u16) -> u16
@@ -104,7 +117,16 @@ pub fn turn<C: Cost, V: EdgeValues<C>>(
     let off = pass_with(scope, values, first, Ending::Leave, table);
     let mut groups = progress.groups;
     let found = choice_in(scope.least, front, on, off, first, last, groups.len());
-    groups.push(PassGroup { first, last, way: on.way });
+    groups.push(PassGroup {
+        first,
+        last,
+        way: on.way,
+    });
     let copies = powers_of(on.cost, u32::from(last - progress.done));
-    Progress { done: last, front: joined_of(Some(front), copies), groups, best: better_of(progress.best, found) }
+    Progress {
+        done: last,
+        front: joined_of(Some(front), copies),
+        groups,
+        best: better_of(progress.best, found),
+    }
 }
