@@ -6,16 +6,22 @@ ghost use Rattle.plain.specs.Copies.{scope-of};
 use crate::plain_scope::PlainScope;
 use model::graph::Node;
 
+fn node_at(scope: &PlainScope, i: usize) -> Option<Node>
+    ensures { λ r. ⌜ r ≡ nth (scope-of (now (scope .entry)) .nodes) i ⌝ }
+{
+    if i < scope.nodes.len {
+        Some(scope.nodes.items[i])
+    } else {
+        None
+    }
+}
+
 impl PlainScope {
     // Node number i.
     pub fn node(&self, i: usize) -> Option<Node>
         ensures { λ r. ⌜ r ≡ nth (scope-of (now (self .entry)) .nodes) i ⌝ }
     {
-        if i < self.nodes.len {
-            Some(self.nodes.items[i])
-        } else {
-            None
-        }
+        node_at(self, i)
     }
 
     // The number of the scope that is called where this edge starts, plus 1, or 0 out of a block.
