@@ -1,7 +1,7 @@
 -- One range more in the search for the bound of a scope.
 use mathlib.Core.Path.{_≡_, refl, sym, ap, ap₂, subst, _∙_}
 use mathlib.Core.Bool.{Bool, true, false, cond}
-use mathlib.Core.Logic.{⊎-elim}
+use mathlib.Core.Logic.{inl, inr, ⊎-elim}
 use mathlib.Core.List.{List, [], _∷_, _++_}
 use Prim.Native.Nat.{ℕ, zero, suc, _+_, _-_, _≤_, _<_, max}
 use native.Mathlib.Omega.{arith}
@@ -33,6 +33,9 @@ use Rattle.bound.specs.declared.choice.Choice.{Choice}
 use Rattle.bound.specs.Choices.{group, choice-cost, better-choice, IsPlaced, IsChoice}
 use Rattle.bound.specs.Progress.{made-choice, choice-of, range-choice, IsProgress}
 use Rattle.bound.specs.Ranges.{cuts}
+use Rattle.bound.specs.Solves.{Ended, IsRunsBest}
+use Rattle.bound.specs.declared.progress.Progress.{Progress}
+use Rattle.trail.specs.Groups.{groups-of}
 use Rattle.bound.proofs.Candidates.{candidate}
 use Rattle.bound.proofs.CutCounts.{cuts-most, cuts-fall}
 use Rattle.bound.proofs.RangeEnds.{range-from}
@@ -197,3 +200,10 @@ turned {C} {m} laws s value done b first whole f front front′ copies groups gr
       subst (λ o. IsProgress m s value b o groups′ best′) (sym fs) (subst (λ o. IsProgress m s value b (joined m (Some f) (powers m (on .cost) (b - done))) o best′) (sym gs)
           (subst (λ o. IsProgress m s value b (joined m (Some f) (powers m (on .cost) (b - done))) (groups ++ (group (suc done) b (way-edges (on .way)) ∷ [])) o) (sym bs) p)),
     )
+
+-- the search is at its end
+pub ended-best : {C : Type 0} {m : Measure C} → Laws m → (s : Scope) (value : ℕ → Option C) (p : Progress C) → IsProgress m s value (p .done) (p .front) (groups-of (p .groups)) (p .best) → Ended s p → (x : Option (Choice C)) → p .best ≡ x → IsRunsBest m s value (choice-cost x)
+ended-best {m = m} laws s value p h (inl l) x q g i chosen placed = subst (λ o. IsBest m (RunCost m g i) (choice-cost o)) q (progress-all laws s value (p .done) (p .front) (groups-of (p .groups)) (p .best) l h g i chosen placed)
+ended-best {m = m} laws s value p h (inr e) x q g i chosen placed =
+    subst (λ o. IsBest m (RunCost m g i) (choice-cost o)) q
+    (progress-stopped laws s value (p .done) (groups-of (p .groups)) (p .best) (subst (λ o. IsProgress m s value (p .done) o (groups-of (p .groups)) (p .best)) e h) g i chosen placed)

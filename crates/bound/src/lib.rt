@@ -1,6 +1,7 @@
 // The bound of one scope, and the run that attains it.
 mod choice;
 mod costs;
+pub mod outcome;
 mod progress;
-mod solve;
+pub mod solve;
 mod turn;
