@@ -1,4 +1,3 @@
-mod Bounds
 mod Copying
 mod Ends
 pub mod Kept

@@ -1,3 +1,4 @@
+pub mod Bounds
 pub mod Copies
 pub mod Ranges
 pub mod Values

@@ -7,8 +7,10 @@ ghost use denote.Ref.{now};
 ghost use Rattle.std.specs.declared.option.Option.the-variants.{Some};
 ghost use Rattle.model.specs.Runs.{nonneg, weight};
 ghost use Rattle.model.specs.Ways.{value-from, edge-value};
+ghost use Rattle.plain.specs.Bounds.{bounds-of};
 ghost use Rattle.plain.specs.Copies.{scope-of};
 ghost use Rattle.plain.specs.Values.{bound-at, heaviest, capped, KeptWeights};
+use crate::bounds::Bounds;
 use crate::plain_scope::PlainScope;
 use model::cost::Cost;
 use model::graph::Edge;
@@ -46,22 +48,19 @@ fn is_solved(solved: &[bool; 16], scope: usize) -> bool
 }
 
 // The bound of a scope, where it is worked out.
-fn bound_of<C: Cost>(bounds: &[C], solved: &[bool; 16], scope: usize) -> Option<C>
-    ensures { λ r. ⌜ r ≡ bound-at (now (bounds .entry)) (now (solved .entry)) scope ⌝ }
+fn bound_of<C: Cost>(bounds: &Bounds<C>, solved: &[bool; 16], scope: usize) -> Option<C>
+    ensures { λ r. ⌜ r ≡ bound-at (bounds-of (now (bounds .entry))) (now (solved .entry)) scope ⌝ }
 {
-    if !is_solved(solved, scope) {
-        return None;
+    if is_solved(solved, scope) {
+        bounds.get(scope)
+    } else {
+        None
     }
-    if scope >= bounds.len() {
-        return None;
-    }
-    let bound = bounds[scope];
-    Some(bound)
 }
 
 // The value of an edge with this effect out of a node: of a call, the bound of the called scope and then the edge.
-fn value_from<C: Cost>(bounds: &[C], solved: &[bool; 16], edge: Edge, node: Node) -> Option<C>
-    ensures { λ r. ⌜ r ≡ value-from (capped measure) (bound-at (now (bounds .entry)) (now (solved .entry))) edge (Some node) ⌝ }
+fn value_from<C: Cost>(bounds: &Bounds<C>, solved: &[bool; 16], edge: Edge, node: Node) -> Option<C>
+    ensures { λ r. ⌜ r ≡ value-from (capped measure) (bound-at (bounds-of (now (bounds .entry))) (now (solved .entry))) edge (Some node) ⌝ }
 {
     let weight = weight_of(node, edge.effect);
     match node {
@@ -77,12 +76,12 @@ fn value_from<C: Cost>(bounds: &[C], solved: &[bool; 16], edge: Edge, node: Node
 #[derive(Drop)]
 pub struct ScopeValues<'a, C> {
     pub scope: &'a PlainScope,
-    pub bounds: &'a [C],
+    pub bounds: &'a Bounds<C>,
     pub solved: &'a [bool; 16],
 }
 
 pub impl<'a, C: Cost> EdgeValues<C> for ScopeValues<'a, C> as PlainValues {
-    ghost values = { λ v. edge-value (capped (C·Cost .measure)) (bound-at (now (v .bounds)) (now (v .solved))) (scope-of (now (v .scope))) };
+    ghost values = { λ v. edge-value (capped (C·Cost .measure)) (bound-at (bounds-of (now (v .bounds))) (now (v .solved))) (scope-of (now (v .scope))) };
 
     fn value(&self, edge: usize) -> Option<C> {
         let edge = self.scope.flow.edge(edge)?;
