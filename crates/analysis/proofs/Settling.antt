@@ -23,10 +23,9 @@ use Rattle.model.specs.Runs.Run.{run}
 use Rattle.model.specs.Runs.Passes.{final}
 use Rattle.model.specs.Runs.Walk.{done}
 use Rattle.model.specs.Trail.{Shows, section}
-use Rattle.model.specs.Ways.{RunCost, AreBest, AreValues, edge-value}
+use Rattle.model.specs.Ways.{RunCost, AreBest}
 use Rattle.model.proofs.Bests.{some-same, best-one}
 use Rattle.model.proofs.Kept.{CallsIn, solved-kept, unsolvable-kept}
-use Rattle.model.proofs.Lifting.{value-right}
 use Rattle.model.proofs.Shown.{AreShown}
 use Rattle.model.proofs.Tables.{solved-best, unsolvable-best}
 use Rattle.rules.specs.CallOrders.{CalledFirst}
@@ -88,10 +87,9 @@ module _ {C : Type 0} {m : Measure C} (laws : Laws m) (g : List Scope) (work : L
       pub are-shown : AreShown m g trail s chosen
       are-shown n t b q best = chosen-best n t b q best .2
 
-      pub are-values : ((n t : ℕ) → nth (s .nodes) n ≡ Some (Call t) → t < length work) → AreValues m g s (edge-value m (λ t. gate (getD solved t false) (nth work t)) s)
-      are-values inside =
-          value-right m g s (λ t. gate (getD solved t false) (nth work t))
-          (λ n t q. let w = called n t q in settled-best t (inside n t q) (subst (Settled m g work trail solved) (w .2) (settled (w .0) (w .1))))
+      -- the bests of the called scopes, as their marks and bounds say
+      pub called-best : ((n t : ℕ) → nth (s .nodes) n ≡ Some (Call t) → t < length work) → (n t : ℕ) → nth (s .nodes) n ≡ Some (Call t) → IsBest m (RunCost m g t) (gate (getD solved t false) (nth work t))
+      called-best inside n t q = let w = called n t q in settled-best t (inside n t q) (subst (Settled m g work trail solved) (w .2) (settled (w .0) (w .1)))
 
 -- one scope more is settled; the tables change only at its number
 module _ {C : Type 0} {m : Measure C} (laws : Laws m) (g : List Scope) (order : List ℕ) (first : CalledFirst g order)
