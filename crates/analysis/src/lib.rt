@@ -1,1 +1,3 @@
 // The worst-case analysis of a graph.
+mod marks;
+mod settle;
