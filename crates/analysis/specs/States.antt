@@ -18,3 +18,7 @@ module _ {C : Type 0} (m : Measure C) (g : List Scope) (work : List C) (trail : 
   -- the first k scopes of the order are settled
   abbrev pub AreSettled : List ℕ → ℕ → Type 0
   AreSettled order k = (l : ℕ) → l < k → Settled (getD order l 0)
+
+-- the two lists have the same first n costs
+abbrev pub Agree : {C : Type 0} → C → List C → List C → ℕ → Type 0
+Agree c xs ys n = (i : ℕ) → i < n → getD xs i c ≡ getD ys i c

@@ -1,4 +1,5 @@
 // The worst-case analysis of a graph.
 mod all;
+pub mod analyze;
 mod marks;
 mod settle;
