@@ -1,6 +1,8 @@
-// Tests of the rules on images, as tables.
+// Tests of the rules and of the analysis on images.
 #[cfg(test)]
 mod alone;
+#[cfg(test)]
+mod bounds;
 #[cfg(test)]
 mod limits;
 #[cfg(test)]
