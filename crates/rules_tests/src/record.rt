@@ -65,7 +65,7 @@ fn add(bytes: &mut Vec<u8>, record: Record) -> Result<(), AllocError> {
 }
 
 // An image of these records, each table as often as it says.
-pub fn image(rt: &LibcRuntime, parts: &[(usize, &[Record])]) -> Result<Vec<u8>, Fail> {
+pub(crate) fn image(rt: &LibcRuntime, parts: &[(usize, &[Record])]) -> Result<Vec<u8>, Fail> {
     let mut records = Vec::new(rt.alloc());
     for (times, part) in parts {
         for _ in 0..*times {
@@ -83,7 +83,7 @@ pub fn image(rt: &LibcRuntime, parts: &[(usize, &[Record])]) -> Result<Vec<u8>, 
 }
 
 // The number of the first broken rule, 0 where none is broken.
-pub fn number(rt: &LibcRuntime, parts: &[(usize, &[Record])]) -> Result<u8, Fail> {
+pub(crate) fn number(rt: &LibcRuntime, parts: &[(usize, &[Record])]) -> Result<u8, Fail> {
     let bytes = image(rt, parts)?;
     let graph = open(bytes.as_slice())?;
     match first_broken(&graph) {
@@ -93,7 +93,7 @@ pub fn number(rt: &LibcRuntime, parts: &[(usize, &[Record])]) -> Result<u8, Fail
 }
 
 // Each case: records after those that all begin with, and the number of the first broken rule.
-pub fn check_table(
+pub(crate) fn check_table(
     rt: &LibcRuntime,
     start: &[Record],
     cases: &[(&[Record], u8)],

@@ -1,4 +1,4 @@
--- A way that uses only the edges which a demand allows is one that meets the demand, and the other way round.
+-- A way that uses only the edges which a restriction allows is one that meets the restriction, and the other way round.
 use mathlib.Core.Path.{_≡_, refl, sym, ap, subst, _∙_}
 use mathlib.Core.Bool.{Bool, true, false, not, _&&_}
 use mathlib.Core.Logic.{_⊎_, inl, inr, ⊎-elim}
@@ -17,11 +17,11 @@ use Rattle.model.specs.declared.graph.Edge.{Edge}
 use Rattle.model.specs.Runs.{Among, reached-at, reached-by, reached, executed}
 use Rattle.model.specs.Ways.{IsWay}
 use Rattle.model.proofs.Bests.{none-some, some-same}
-use Rattle.search.specs.declared.demand.Demand.{Demand}
-use Rattle.search.specs.declared.demand.Demand.the-variants.{Free, Avoid, Visit}
+use Rattle.search.specs.declared.restriction.Restriction.{Restriction}
+use Rattle.search.specs.declared.restriction.Restriction.the-variants.{Free, Avoid, Visit}
 use Rattle.search.specs.declared.ending.Ending.{Ending}
 use Rattle.search.specs.declared.ending.Ending.the-variants.{Again as Repeat, Leave as Exit}
-use Rattle.search.specs.Demands.{Grants, hits, beyond, passes-by, allows}
+use Rattle.search.specs.Restrictions.{Grants, hits, beyond, passes-by, allows}
 use Rattle.search.specs.Endings.{stop}
 use Rattle.search.specs.Rounds.{Uses}
 use Rattle.search.specs.Walks.{Forward}
@@ -169,7 +169,7 @@ uses-visit edges m fwd n end (e ∷ es) t (x, there, starts, w) h = (
         (λ a. ⊎-elim (λ p. inl (omega arith)) inr (subst (λ p. Among n (reached-at p ++ reached edges es)) q a)) on
 
 -- the two together, for a pass
-pub grants : (edges : List Edge) (d : Demand) (end : Ending) (es : List ℕ) → IsWay edges (To 0) (stop end) es → Uses (allows d) edges es → Grants d (executed edges es)
+pub grants : (edges : List Edge) (d : Restriction) (end : Ending) (es : List ℕ) → IsWay edges (To 0) (stop end) es → Uses (allows d) edges es → Grants d (executed edges es)
 grants edges Free end es w u = tt
 grants edges (Avoid n) end es w u = λ a. ⊎-elim (some-edge es w u) (avoids edges n (To 0) (stop end) es w u) a
   where
@@ -178,7 +178,7 @@ grants edges (Avoid n) end es w u = λ a. ⊎-elim (some-edge es w u) (avoids ed
     some-edge (e ∷ ws) w u q = avoid-step n (w .0) (u .0 (w .0) (w .1)) .0 q
 grants edges (Visit n) end es w u = visits edges n end es (To 0) w (le-ltb n 0 (omega arith)) u
 
-pub granted : (edges : List Edge) (m : ℕ) → Forward edges m → (d : Demand) (end : Target) (es : List ℕ) → IsWay edges (To 0) end es → Grants d (executed edges es) → Uses (allows d) edges es
+pub granted : (edges : List Edge) (m : ℕ) → Forward edges m → (d : Restriction) (end : Target) (es : List ℕ) → IsWay edges (To 0) end es → Grants d (executed edges es) → Uses (allows d) edges es
 granted edges m fwd Free end es w g = uses-free es
   where
     uses-free : (ws : List ℕ) → Uses (allows Free) edges ws

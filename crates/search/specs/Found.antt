@@ -15,7 +15,7 @@ use Rattle.model.specs.Ways.{IsWay, IsPassWay, way-cost, WayCost}
 use Rattle.search.specs.declared.ending.Ending.{Ending}
 use Rattle.search.specs.declared.found.Costliest.{Costliest}
 use Rattle.search.specs.Endings.{stop}
-use Rattle.search.specs.Rounds.{demands, allows-all, Uses, RoundCost}
+use Rattle.search.specs.Rounds.{restrictions, allows-all, Uses, RoundCost}
 use Rattle.search.specs.Tables.{OnSome}
 use Rattle.search.specs.Ways.{way-edges}
 

@@ -1,9 +1,9 @@
-pub mod Demands
 pub mod Endings
 pub mod Exits
 pub mod Flows
 pub mod Found
 pub mod Powers
+pub mod Restrictions
 pub mod Rounds
 pub mod Tables
 pub mod Walks

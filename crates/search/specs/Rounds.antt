@@ -16,22 +16,22 @@ use Rattle.model.specs.declared.graph.Constraint.the-variants.{Bar, Must, Pair}
 use Rattle.model.specs.declared.graph.Fact.{Fact}
 use Rattle.model.specs.Measures.{Measure}
 use Rattle.model.specs.Ways.{IsWay, way-cost}
-use Rattle.search.specs.declared.demand.Demand.{Demand}
-use Rattle.search.specs.Demands.{Grants, allows, demand-of}
+use Rattle.search.specs.declared.restriction.Restriction.{Restriction}
+use Rattle.search.specs.Restrictions.{Grants, allows, restriction-of}
 
 -- the digits of a round's number in base two say which node of each pair is avoided
 abbrev pub odd : ℕ → Bool
 odd r = eqb (r % 2) 1
 
-abbrev pub demands : List Fact → ℕ → ℕ → List Demand
-demands [] k r = []
-demands (f ∷ fs) k r = demand-of f k (odd r) ∷ demands fs k (r / 2)
+abbrev pub restrictions : List Fact → ℕ → ℕ → List Restriction
+restrictions [] k r = []
+restrictions (f ∷ fs) k r = restriction-of f k (odd r) ∷ restrictions fs k (r / 2)
 
-abbrev pub allows-all : List Demand → Edge → Bool
+abbrev pub allows-all : List Restriction → Edge → Bool
 allows-all [] x = true
 allows-all (d ∷ ds) x = allows d x && allows-all ds x
 
-abbrev pub GrantsAll : List Demand → List ℕ → Type 0
+abbrev pub GrantsAll : List Restriction → List ℕ → Type 0
 GrantsAll [] ns = Unit {0}
 GrantsAll (d ∷ ds) ns = Grants d ns × GrantsAll ds ns
 
@@ -57,8 +57,8 @@ Uses t edges (e ∷ es) = ((x : Edge) → nth edges e ≡ Some x → t x ≡ tru
 -- what ways cost that use only the edges left in round r
 abbrev pub RoundCost : {C : Type 0} → Measure C → (ℕ → Option C) → List Edge → List Fact → ℕ → ℕ → Target → C → Type 0
 RoundCost m value edges facts k r end c =
-    (es : List ℕ) × IsWay edges (To 0) end es × Uses (allows-all (demands facts k r)) edges es × (way-cost m value es ≡ Some c)
+    (es : List ℕ) × IsWay edges (To 0) end es × Uses (allows-all (restrictions facts k r)) edges es × (way-cost m value es ≡ Some c)
 
 -- the table of the edges that are left
 abbrev pub AreUsable : List Edge → List Fact → ℕ → ℕ → List Bool → Type 0
-AreUsable edges facts k r usable = (e : ℕ) (x : Edge) → nth edges e ≡ Some x → getD usable e false ≡ allows-all (demands facts k r) x
+AreUsable edges facts k r usable = (e : ℕ) (x : Edge) → nth edges e ≡ Some x → getD usable e false ≡ allows-all (restrictions facts k r) x

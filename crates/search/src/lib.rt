@@ -2,7 +2,6 @@
 // An edge is known here by its start, its target and its value alone.
 pub mod answers;
 pub mod costliest;
-mod demand;
 pub mod ending;
 mod exits;
 pub mod flow;
@@ -10,6 +9,7 @@ mod follow;
 pub mod found;
 pub mod power;
 pub mod prepare;
+mod restriction;
 mod rows;
 mod step;
 mod table;

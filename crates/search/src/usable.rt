@@ -2,10 +2,10 @@
 ghost use mathlib.Core.Path.{_≡_};
 ghost use mathlib.Core.Bool.{not, _||_};
 ghost use Rattle.search.specs.Flows.{edges-of, facts-of};
-ghost use Rattle.search.specs.Rounds.{demands, allows-all, splits, useful, AreUsable};
-use crate::demand::allowed;
-use crate::demand::demand_of;
+ghost use Rattle.search.specs.Rounds.{restrictions, allows-all, splits, useful, AreUsable};
 use crate::flow::Flow;
+use crate::restriction::allowed;
+use crate::restriction::restriction_of;
 use model::graph::Constraint;
 use model::graph::Edge;
 use model::graph::Fact;
@@ -45,14 +45,14 @@ pub fn is_useful(flow: &Flow, pass: u16, round: u8) -> bool
     true
 }
 
-// May a pass that meets the demands of this round use the edge?
+// May a pass that meets the restrictions of this round use the edge?
 fn is_left(flow: &Flow, pass: u16, round: u8, edge: Edge) -> bool
-    ensures { λ r. ⌜ r ≡ allows-all (demands (facts-of (now (flow .entry))) pass round) edge ⌝ }
+    ensures { λ r. ⌜ r ≡ allows-all (restrictions (facts-of (now (flow .entry))) pass round) edge ⌝ }
 {
     let mut digits = round;
     for j in 0..flow.facts.len {
-        let demand = demand_of(flow.facts.items[j], pass, digits % 2 == 1);
-        if !allowed(demand, edge) {
+        let restriction = restriction_of(flow.facts.items[j], pass, digits % 2 == 1);
+        if !allowed(restriction, edge) {
             return false;
         }
         digits = digits / 2;

@@ -41,7 +41,7 @@ pub struct Small<'a> {
     pub edges: &'a [Edge],
 }
 
-pub fn edge(from: u8, to: Target, effect: i32) -> Edge {
+pub(crate) fn edge(from: u8, to: Target, effect: i32) -> Edge {
     Edge { from, to, effect }
 }
 
@@ -58,7 +58,7 @@ fn weighed(blocks: &[(u32, u16)], edge: Edge) -> Option<(u32, u16)> {
 
 impl Small<'_> {
     // The values of its edges, but for one edge that has none.
-    pub fn values(self, without: usize) -> Values {
+    pub(crate) fn values(self, without: usize) -> Values {
         let mut items = [None; 8];
         for e in 0..8 {
             if e < self.edges.len() && e != without {

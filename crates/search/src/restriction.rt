@@ -2,14 +2,14 @@
 ghost use mathlib.Core.Path.{_≡_};
 ghost use lib.ListN.{length};
 ghost use Prim.Native.Nat.{_≤_};
-ghost use Rattle.search.specs.Demands.{allows, demand-of, hits, passes-by};
+ghost use Rattle.search.specs.Restrictions.{allows, restriction-of, hits, passes-by};
 use model::graph::Constraint;
 use model::graph::Edge;
 use model::graph::Fact;
 use model::graph::Target;
 
 #[derive(Clone, Copy, PartialEq, Eq, Debug)]
-pub enum Demand {
+pub enum Restriction {
     // nothing is asked
     Free,
     // the node is not executed
@@ -40,27 +40,27 @@ fn passes_by(edge: Edge, node: u8) -> bool
         }
 }
 
-// May a pass that meets the demand use the edge?
-pub fn allowed(demand: Demand, edge: Edge) -> bool
-    ensures { λ r. ⌜ r ≡ allows demand edge ⌝ }
+// May a pass that meets the restriction use the edge?
+pub fn allowed(restriction: Restriction, edge: Edge) -> bool
+    ensures { λ r. ⌜ r ≡ allows restriction edge ⌝ }
 {
-    match demand {
-        Demand::Free => true,
-        Demand::Avoid(n) => n != 0 && !leads_to(edge, n),
-        Demand::Visit(n) => !passes_by(edge, n),
+    match restriction {
+        Restriction::Free => true,
+        Restriction::Avoid(n) => n != 0 && !leads_to(edge, n),
+        Restriction::Visit(n) => !passes_by(edge, n),
     }
 }
 
 // What a fact asks of this pass; of a pair, either node can be the one to avoid.
-pub fn demand_of(fact: Fact, pass: u16, second: bool) -> Demand
-    ensures { λ r. ⌜ r ≡ demand-of fact pass second ⌝ }
+pub fn restriction_of(fact: Fact, pass: u16, second: bool) -> Restriction
+    ensures { λ r. ⌜ r ≡ restriction-of fact pass second ⌝ }
 {
     if pass < fact.first || fact.last < pass {
-        return Demand::Free;
+        return Restriction::Free;
     }
     match fact.constraint {
-        Constraint::Bar(n) => Demand::Avoid(n),
-        Constraint::Must(n) => Demand::Visit(n),
-        Constraint::Pair(n, m) => Demand::Avoid(if second { m } else { n }),
+        Constraint::Bar(n) => Restriction::Avoid(n),
+        Constraint::Must(n) => Restriction::Visit(n),
+        Constraint::Pair(n, m) => Restriction::Avoid(if second { m } else { n }),
     }
 }

@@ -11,11 +11,11 @@ use Rattle.model.specs.declared.graph.Constraint.{Constraint}
 use Rattle.model.specs.declared.graph.Constraint.the-variants.{Bar, Must, Pair}
 use Rattle.model.specs.declared.graph.Fact.{Fact}
 use Rattle.model.specs.Runs.{Among}
-use Rattle.search.specs.declared.demand.Demand.{Demand}
-use Rattle.search.specs.declared.demand.Demand.the-variants.{Free, Avoid, Visit}
+use Rattle.search.specs.declared.restriction.Restriction.{Restriction}
+use Rattle.search.specs.declared.restriction.Restriction.the-variants.{Free, Avoid, Visit}
 
--- the pass that executes the nodes ns meets the demand
-abbrev pub Grants : Demand → List ℕ → Type 0
+-- the pass that executes the nodes ns meets the restriction
+abbrev pub Grants : Restriction → List ℕ → Type 0
 Grants Free ns = Unit {0}
 Grants (Avoid n) ns = Among n ns → ⊥
 Grants (Visit n) ns = Among n ns
@@ -34,17 +34,17 @@ beyond Leave n = true
 abbrev pub passes-by : Edge → ℕ → Bool
 passes-by x n = ltb (x .from) n && beyond (x .to) n
 
--- the edges that a pass which meets the demand may use
-abbrev pub allows : Demand → Edge → Bool
+-- the edges that a pass which meets the restriction may use
+abbrev pub allows : Restriction → Edge → Bool
 allows Free x = true
 allows (Avoid n) x = not (eqb n 0) && not (hits (x .to) n)
 allows (Visit n) x = not (passes-by x n)
 
 -- what a fact asks of a pass that it is in force for; of a pair, one of the two nodes is avoided
-abbrev pub asks : Constraint → Bool → Demand
+abbrev pub asks : Constraint → Bool → Restriction
 asks (Bar n) second = Avoid n
 asks (Must n) second = Visit n
 asks (Pair n m) second = Avoid (cond second m n)
 
-abbrev pub demand-of : Fact → ℕ → Bool → Demand
-demand-of f k second = cond (ltb k (f .first) || ltb (f .last) k) Free (asks (f .constraint) second)
+abbrev pub restriction-of : Fact → ℕ → Bool → Restriction
+restriction-of f k second = cond (ltb k (f .first) || ltb (f .last) k) Free (asks (f .constraint) second)
