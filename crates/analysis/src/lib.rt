@@ -1,4 +1,6 @@
 // The worst-case analysis of a graph.
+#![tactic(auto)]
+
 mod all;
 pub mod analyze;
 mod marks;

@@ -1,4 +1,6 @@
 // The bound of one scope, and the run that attains it.
+#![tactic(auto)]
+
 mod choice;
 mod costs;
 pub mod outcome;

@@ -1,6 +1,8 @@
 // Runs a script of calls on a new workbook, one call a line, and prints each answer.
 // The script comes from standard input; with --sample it is a small one that is built in.
 // Working out is in cycles; with --stack it is in stack.
+#![tactic(auto)]
+
 use crate::sample::SAMPLE;
 use anyhow::anyhow;
 use measures::cycles::Cycles;

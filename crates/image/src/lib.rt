@@ -1,4 +1,6 @@
 // The binary image of a scope graph, opened and asked in place: nothing of it is copied.
+#![tactic(auto)]
+
 pub mod answers;
 pub mod image;
 pub mod open;

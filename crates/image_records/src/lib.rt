@@ -1,3 +1,5 @@
 // Images of graphs, made of their records.
+#![tactic(auto)]
+
 pub mod build;
 pub mod record;

@@ -1,4 +1,6 @@
 // A scope copied out of its graph, once, into plain arrays.
+#![tactic(auto)]
+
 pub mod bounds;
 pub mod called;
 pub mod copy;

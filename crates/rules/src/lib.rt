@@ -1,4 +1,6 @@
 // The rules of scope graphs, for everything that can be asked as one.
+#![tactic(auto)]
+
 mod calls;
 mod item;
 pub mod judge;

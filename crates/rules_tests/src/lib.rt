@@ -1,4 +1,6 @@
 // Tests of the rules and of the analysis on images.
+#![tactic(auto)]
+
 #[cfg(test)]
 mod alone;
 #[cfg(test)]

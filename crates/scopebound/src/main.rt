@@ -1,5 +1,7 @@
 // Reads a scope-graph image and prints what it holds, or why it is refused (then with status 1).
 // The image comes from standard input; with --sample it is a small one that is built in.
+#![tactic(auto)]
+
 use anyhow::anyhow;
 use report::listing::list_image;
 use report::sample::SAMPLE;

@@ -1,4 +1,6 @@
 // Calls on a workbook and their answers as text.
+#![tactic(auto)]
+
 pub mod answer_text;
 pub mod call_text;
 pub mod cost_text;

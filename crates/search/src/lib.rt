@@ -1,5 +1,7 @@
 // The costliest pass through a scope, within passes that have the same facts in force.
 // An edge is known here by its start, its target and its value alone.
+#![tactic(auto)]
+
 pub mod answers;
 pub mod costliest;
 pub mod ending;

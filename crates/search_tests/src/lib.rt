@@ -1,4 +1,6 @@
 // Tests of the search on small graphs, as tables.
+#![tactic(auto)]
+
 #[cfg(test)]
 mod limits;
 #[cfg(test)]

@@ -1,4 +1,6 @@
 // Tests of the calls on a workbook, as tables.
+#![tactic(auto)]
+
 #[cfg(test)]
 mod alone;
 #[cfg(test)]
