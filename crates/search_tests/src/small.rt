@@ -14,7 +14,7 @@ pub struct Values {
 
 // The cost of a weight and a stack, where they are there.
 pub fn cost_of<C: Cost>(item: Option<(u32, u16)>) -> Option<C>
-    ensures { result ≡ cost_of_lem measure item }
+    ensures { result ≡ cost_of_lem C.Cost.measure item }
 {
     match item {
         None => None,
