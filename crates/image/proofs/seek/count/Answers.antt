@@ -2,9 +2,9 @@ use Rattle.std.proofs.Common.{sym, ◌∙◌}
 use Rattle.image.specs.Found.{counted_all, counted_none, counted_some}
 use Rattle.image.proofs.seek.count.Goals as goal
 
-pub returns-in-default : goal.returns-in-default
-returns-in-default g c =
-    sym (g.met.P.Part.counts c.args.list.now c.args.bytes.now ∙ counted_all (g.P.Part.picks c.args.list.now) _ c.args.bytes.now _ c.in-default.ensures c.additions.ensures)
+pub returns-in_default : goal.returns-in_default
+returns-in_default g c =
+    sym (g.met.P.Part.counts c.args.list.now c.args.bytes.now ∙ counted_all (g.P.Part.picks c.args.list.now) _ c.args.bytes.now _ c.in_default.ensures c.additions.ensures)
 
 pub returns-in-None : goal.returns-in-None
 returns-in-None g c =
