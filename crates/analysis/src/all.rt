@@ -24,7 +24,7 @@ pub fn settle_all<C: Cost, G: ScopeGraph>(
     requires ordered { CalledFirst (G.ScopeGraph.graph graph.now) order.now }
     requires room { 32 ≤ length work.old }
     requires lines { size * length (G.ScopeGraph.graph graph.now) ≤ length trail.old }
-    ensures settled { AreSettled C.Cost.measure (G.ScopeGraph.graph graph.now) (bounds_of result.bounds) trail.new result.solved order.now (length (G.ScopeGraph.graph graph.now)) }
+    ensures settled { AreSettled C.measure (G.ScopeGraph.graph graph.now) (bounds_of result.bounds) trail.new result.solved order.now (length (G.ScopeGraph.graph graph.now)) }
     ensures rest { drop (size * length (G.ScopeGraph.graph graph.now)) trail.new ≡ drop (size * length (G.ScopeGraph.graph graph.now)) trail.old }
 {
     let mut marks = Marks {

@@ -21,7 +21,7 @@ const WORK: usize = 128;
 // The bounds go to the places of their scopes in the work table.
 fn write_bounds<C: Cost>(bounds: &Bounds<C>, work: &mut [C])
     requires { 16 ≤ length work.old }
-    ensures { Agree C.Cost.measure.nothing work.new (bounds_of bounds.now) 16 }
+    ensures { Agree C.measure.nothing work.new (bounds_of bounds.now) 16 }
 {
     for scope in 0..16 {
         if let Some(bound) = bounds.get(scope) {
@@ -36,7 +36,7 @@ pub fn analyze<C: Cost, G: ScopeGraph>(
     work: &mut [C],
     trail: &mut [Line],
 ) -> Result<C, Refusal>
-    ensures { Analyzed C.Cost.measure (G.ScopeGraph.graph graph.now) work.old work.new trail.old trail.new result }
+    ensures { Analyzed C.measure (G.ScopeGraph.graph graph.now) work.old work.new trail.old trail.new result }
 {
     if work.len() < WORK {
         return Err(Refusal::ShortWork);

@@ -29,7 +29,7 @@ fn bound_by<'a, C: Cost>(
     solved: &'a [bool; 16],
     work: &mut [C],
 ) -> Outcome<C>
-    ensures { Solves C.Cost.measure (scope_of scope.now) (edge_value_lem (capped C.Cost.measure) (bound_at (bounds_of bounds.now) solved.now) (scope_of scope.now)) (length work.old) result }
+    ensures { Solves C.measure (scope_of scope.now) (edge_value_lem (capped C.measure) (bound_at (bounds_of bounds.now) solved.now) (scope_of scope.now)) (length work.old) result }
 {
     let values = ScopeValues {
         scope,
@@ -54,9 +54,9 @@ pub fn settle<C: Cost, G: ScopeGraph>(
     requires room { 32 ≤ length work.old }
     requires lines { size * length (G.ScopeGraph.graph graph.now) ≤ length trail.old }
     requires wide { length marks.solved ≡ 16 }
-    requires sofar { AreSettled C.Cost.measure (G.ScopeGraph.graph graph.now) (bounds_of marks.bounds) trail.old marks.solved order.now place }
+    requires sofar { AreSettled C.measure (G.ScopeGraph.graph graph.now) (bounds_of marks.bounds) trail.old marks.solved order.now place }
     ensures wide { length result.solved ≡ 16 }
-    ensures sofar { AreSettled C.Cost.measure (G.ScopeGraph.graph graph.now) (bounds_of result.bounds) trail.new result.solved order.now (place + 1) }
+    ensures sofar { AreSettled C.measure (G.ScopeGraph.graph graph.now) (bounds_of result.bounds) trail.new result.solved order.now (place + 1) }
     ensures rest { drop (size * length (G.ScopeGraph.graph graph.now)) trail.new ≡ drop (size * length (G.ScopeGraph.graph graph.now)) trail.old }
 {
     let number = order[place] as usize;

@@ -10,7 +10,7 @@ use search::power::power_of;
 
 // Both in their order, absent where one is.
 pub fn joined_of<C: Cost>(a: Option<C>, b: Option<C>) -> Option<C>
-    ensures { result ≡ joined C.Cost.measure a b }
+    ensures { result ≡ joined C.measure a b }
 {
     match (a, b) {
         (Some(x), Some(y)) => Some(x.join(y)),
@@ -20,7 +20,7 @@ pub fn joined_of<C: Cost>(a: Option<C>, b: Option<C>) -> Option<C>
 
 // So many copies of a cost that may be absent: no copies cost nothing.
 pub fn powers_of<C: Cost>(cost: Option<C>, times: u32) -> Option<C>
-    ensures { result ≡ powers C.Cost.measure cost times }
+    ensures { result ≡ powers C.measure cost times }
 {
     match cost {
         Some(c) => Some(power_of(c, times)),
@@ -30,14 +30,14 @@ pub fn powers_of<C: Cost>(cost: Option<C>, times: u32) -> Option<C>
 
 // What comes before, so many copies, and what comes last.
 pub fn spread_of<C: Cost>(front: C, on: Option<C>, off: Option<C>, times: u32) -> Option<C>
-    ensures { result ≡ spread C.Cost.measure (Some front) on off times }
+    ensures { result ≡ spread C.measure (Some front) on off times }
 {
     joined_of(joined_of(Some(front), powers_of(on, times)), off)
 }
 
 // The costlier of two choices, or the one that is there.
 pub fn better_of<C: Cost>(a: Option<Choice<C>>, b: Option<Choice<C>>) -> Option<Choice<C>>
-    ensures { result ≡ better_choice C.Cost.measure a b }
+    ensures { result ≡ better_choice C.measure a b }
 {
     match (a, b) {
         (None, _) => b,

@@ -48,7 +48,7 @@ fn search_ranges<C: Cost, V: EdgeValues<C>>(
     requires room { 32 ≤ length table.old }
     requires proper { Proper (scope_of scope.now).facts }
     requires some { 1 ≤ scope.now.least }
-    ensures sofar { IsProgress C.Cost.measure (scope_of scope.now) (V.EdgeValues.values values.now) result.done result.front (groups_of result.groups) result.best }
+    ensures sofar { IsProgress C.measure (scope_of scope.now) (V.EdgeValues.values values.now) result.done result.front (groups_of result.groups) result.best }
     ensures ended { Ended (scope_of scope.now) result }
 {
     let mut progress = Progress {
@@ -100,7 +100,7 @@ pub fn solve<C: Cost, V: EdgeValues<C>>(
     values: &V,
     table: &mut [C],
 ) -> Outcome<C>
-    ensures { Solves C.Cost.measure (scope_of scope.now) (V.EdgeValues.values values.now) (length table.old) result }
+    ensures { Solves C.measure (scope_of scope.now) (V.EdgeValues.values values.now) (length table.old) result }
 {
     if table.len() < 32 || scope.least == 0 {
         return Outcome::Unfit;

@@ -26,7 +26,7 @@ fn pass_with<C: Cost, V: EdgeValues<C>>(
     table: &mut [C],
 ) -> Costliest<C>
     requires { 32 ≤ length table.old }
-    ensures { IsCostliest C.Cost.measure (V.EdgeValues.values values.now) (scope_of scope.now).edges (scope_of scope.now).facts pass ending result }
+    ensures { IsCostliest C.measure (V.EdgeValues.values values.now) (scope_of scope.now).edges (scope_of scope.now).facts pass ending result }
 {
     match scope.flow.costliest(values, pass, ending, table) {
         Some(found) => found,
@@ -47,7 +47,7 @@ fn choice_at<C: Cost>(
     passes: u16,
 ) -> Option<Choice<C>>
     requires { first ≤ passes }
-    ensures { result ≡ choice_of C.Cost.measure front on off first whole passes }
+    ensures { result ≡ choice_of C.measure front on off first whole passes }
 {
     let cost = spread_of(front, on.cost, off.cost, u32::from(passes - first))?;
     Some(Choice {
@@ -71,7 +71,7 @@ fn choice_in<C: Cost>(
     whole: usize,
 ) -> Option<Choice<C>>
     requires { first ≤ last }
-    ensures { result ≡ range_choice C.Cost.measure least front on off first last whole }
+    ensures { result ≡ range_choice C.measure least front on off first last whole }
 {
     if last < least {
         return None;
@@ -102,9 +102,9 @@ pub fn turn<C: Cost, V: EdgeValues<C>>(
     requires proper { Proper (scope_of scope.now).facts }
     requires goes { progress.front ≡ Some front }
     requires more { progress.done < scope.now.most }
-    requires sofar { IsProgress C.Cost.measure (scope_of scope.now) (V.EdgeValues.values values.now) progress.done progress.front (groups_of progress.groups) progress.best }
+    requires sofar { IsProgress C.measure (scope_of scope.now) (V.EdgeValues.values values.now) progress.done progress.front (groups_of progress.groups) progress.best }
     ensures further { progress.done < result.done }
-    ensures sofar { IsProgress C.Cost.measure (scope_of scope.now) (V.EdgeValues.values values.now) result.done result.front (groups_of result.groups) result.best }
+    ensures sofar { IsProgress C.measure (scope_of scope.now) (V.EdgeValues.values values.now) result.done result.front (groups_of result.groups) result.best }
 {
     let first = next_pass(progress.done, scope.most);
     let last = scope.range_end(first);

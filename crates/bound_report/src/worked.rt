@@ -25,7 +25,7 @@ pub fn work_out<C: Cost + Clone, G: ScopeGraph>(
     heap: Global,
     graph: &G,
 ) -> Result<Worked<C>, AllocError>
-    ensures { IfOk result (λ w. WorkedOut C.Cost.measure (G.ScopeGraph.graph graph.now) w.trail.items w.answer) }
+    ensures { IfOk result (λ w. WorkedOut C.measure (G.ScopeGraph.graph graph.now) w.trail.items w.answer) }
 {
     let mut work = vec![in heap; C::nothing(); WORK]?;
     let blank = Line {

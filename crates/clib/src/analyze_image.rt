@@ -13,7 +13,7 @@ pub fn analyze_image<C: Cost>(
     work: &mut [C],
     trail: &mut [Line],
 ) -> Result<C, Refusal>
-    ensures { ImageAnalyzed C.Cost.measure bytes.now work.old work.new trail.old trail.new result }
+    ensures { ImageAnalyzed C.measure bytes.now work.old work.new trail.old trail.new result }
 {
     let image = open(bytes)?;
     analyze(&image, work, trail)

@@ -5,14 +5,14 @@ use model::cost::Cost;
 
 // The cost of a run is what its edges cost, joined one after the other in the order of the run.
 pub fn cost_in_order<C: Cost>() -> u8
-    ensures { JoinedInOrder C.Cost.measure }
+    ensures { JoinedInOrder C.measure }
 {
     0
 }
 
 // A scope has one bound at most.
 pub fn one_bound<C: Cost>() -> u8
-    ensures { BoundUnique C.Cost.measure }
+    ensures { BoundUnique C.measure }
 {
     0
 }

@@ -55,7 +55,7 @@ fn bound_of<C: Cost>(bounds: &Bounds<C>, solved: &[bool; 16], scope: usize) -> O
 
 // The value of an edge with this effect out of a node: of a call, the bound of the called scope and then the edge.
 fn value_from<C: Cost>(bounds: &Bounds<C>, solved: &[bool; 16], edge: Edge, node: Node) -> Option<C>
-    ensures { result ≡ value_from_lem (capped C.Cost.measure) (bound_at (bounds_of bounds.now) solved.now) edge (Some node) }
+    ensures { result ≡ value_from_lem (capped C.measure) (bound_at (bounds_of bounds.now) solved.now) edge (Some node) }
 {
     let weight = weight_of(node, edge.effect);
     match node {
@@ -76,7 +76,7 @@ pub struct ScopeValues<'a, C> {
 }
 
 impl<'a, C: Cost> EdgeValues<C> for ScopeValues<'a, C> {
-    ghost values = { λ v. edge_value_lem (capped C.Cost.measure) (bound_at (bounds_of v.bounds.now) v.solved.now) (scope_of v.scope.now) };
+    ghost values = { λ v. edge_value_lem (capped C.measure) (bound_at (bounds_of v.bounds.now) v.solved.now) (scope_of v.scope.now) };
 
     fn value(&self, edge: usize) -> Option<C> {
         let edge = self.scope.flow.edge(edge)?;

@@ -23,7 +23,7 @@ fn round_best<C: Cost, V: EdgeValues<C>>(
     table: &mut [C],
 ) -> Costliest<C>
     requires { 32 ≤ length table.old }
-    ensures { IsRoundBest C.Cost.measure (V.EdgeValues.values values.now) (edges_of flow.now) (facts_of flow.now) pass ending round result }
+    ensures { IsRoundBest C.measure (V.EdgeValues.values values.now) (edges_of flow.now) (facts_of flow.now) pass ending round result }
 {
     if flow.nodes == 0 {
         return Costliest {
@@ -47,7 +47,7 @@ fn round_best<C: Cost, V: EdgeValues<C>>(
 
 // The costlier of two passes, of which either may be absent.
 fn costlier_pass<C: Cost>(best: Costliest<C>, found: Costliest<C>) -> Costliest<C>
-    ensures { result ≡ costlier_of_lem C.Cost.measure best found }
+    ensures { result ≡ costlier_of_lem C.measure best found }
 {
     match (best.cost, found.cost) {
         (_, None) => best,
@@ -79,7 +79,7 @@ impl Flow {
         ending: Ending,
         table: &mut [C],
     ) -> Option<Costliest<C>>
-        ensures { Searched C.Cost.measure (V.EdgeValues.values values.now) (edges_of self.now) (facts_of self.now) pass ending table.old table.new result }
+        ensures { Searched C.measure (V.EdgeValues.values values.now) (edges_of self.now) (facts_of self.now) pass ending table.old table.new result }
     {
         if table.len() < 32 {
             return None;

@@ -7,7 +7,7 @@ use model::cost::Cost;
 
 // `times` copies of a cost, joined by repeated squaring.
 pub fn power_of<C: Cost>(cost: C, times: u32) -> C
-    ensures { result ≡ power C.Cost.measure cost times }
+    ensures { result ≡ power C.measure cost times }
 {
     let mut left = times;
     let mut square = cost;
@@ -24,8 +24,8 @@ pub fn power_of<C: Cost>(cost: C, times: u32) -> C
 
 // What holds of the powers of a cost under every measure.
 pub fn power_laws<C: Cost>(_cost: C) -> u8
-    ensures splits { Splits C.Cost.measure }
-    ensures ends { Ends C.Cost.measure }
+    ensures splits { Splits C.measure }
+    ensures ends { Ends C.measure }
 {
     0
 }

@@ -49,7 +49,7 @@ fn offer_of<C: Cost>(
     choices: &[Option<u8>; 32],
 ) -> Option<C>
     requires { (v : ℕ) → to ≡ To v → (v < length table.now) × (v < 32) }
-    ensures { result ≡ offer C.Cost.measure value to ending table.now choices.now }
+    ensures { result ≡ offer C.measure value to ending table.now choices.now }
 {
     let Some(cost) = value else {
         return None;
@@ -67,7 +67,7 @@ fn offer_of<C: Cost>(
 
 // The costlier of the best so far and what an edge offers.
 fn costlier_of<C: Cost>(best: Option<Step<C>>, offered: Option<C>, edge: u8) -> Option<Step<C>>
-    ensures { result ≡ costlier C.Cost.measure best offered edge }
+    ensures { result ≡ costlier C.measure best offered edge }
 {
     match (best, offered) {
         (_, None) => best,
@@ -94,9 +94,9 @@ fn best_from<C: Cost, V: EdgeValues<C>>(
 ) -> Option<Step<C>>
     requires room { 32 ≤ length table.now }
     requires low { node < 32 }
-    requires above { (v : ℕ) → node < v → v < flow.now.nodes → IsBest C.Cost.measure (TailCost C.Cost.measure (masked (V.EdgeValues.values values.now) usable.now) (edges_of flow.now) (stop ending) (To v)) (entry table.now choices.now v) }
-    ensures best { IsBest C.Cost.measure (TailCost C.Cost.measure (masked (V.EdgeValues.values values.now) usable.now) (edges_of flow.now) (stop ending) (To node)) (cost_of_lem result) }
-    ensures linked { OnSome (IsStep C.Cost.measure (masked (V.EdgeValues.values values.now) usable.now) (edges_of flow.now) ending table.now choices.now node) result }
+    requires above { (v : ℕ) → node < v → v < flow.now.nodes → IsBest C.measure (TailCost C.measure (masked (V.EdgeValues.values values.now) usable.now) (edges_of flow.now) (stop ending) (To v)) (entry table.now choices.now v) }
+    ensures best { IsBest C.measure (TailCost C.measure (masked (V.EdgeValues.values values.now) usable.now) (edges_of flow.now) (stop ending) (To node)) (cost_of_lem result) }
+    ensures linked { OnSome (IsStep C.measure (masked (V.EdgeValues.values values.now) usable.now) (edges_of flow.now) ending table.now choices.now node) result }
 {
     let mut best = None;
     let mut exit = flow.exits.first[node];
@@ -119,7 +119,7 @@ pub fn fill<C: Cost, V: EdgeValues<C>>(
     table: &mut [C],
 ) -> [Option<u8>; 32]
     requires { 32 ≤ length table.old }
-    ensures { (k : ℕ) → k < flow.now.nodes → IsEntry C.Cost.measure (masked (V.EdgeValues.values values.now) usable.now) (edges_of flow.now) ending table.new result k }
+    ensures { (k : ℕ) → k < flow.now.nodes → IsEntry C.measure (masked (V.EdgeValues.values values.now) usable.now) (edges_of flow.now) ending table.new result k }
 {
     let mut choices = [None; 32];
     for k in (0..flow.nodes).rev() {

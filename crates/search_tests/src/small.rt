@@ -14,7 +14,7 @@ pub struct Values {
 
 // The cost of a weight and a stack, where they are there.
 pub fn cost_of<C: Cost>(item: Option<(u32, u16)>) -> Option<C>
-    ensures { result ≡ cost_of_lem C.Cost.measure item }
+    ensures { result ≡ cost_of_lem C.measure item }
 {
     match item {
         None => None,
@@ -23,7 +23,7 @@ pub fn cost_of<C: Cost>(item: Option<(u32, u16)>) -> Option<C>
 }
 
 impl<C: Cost> EdgeValues<C> for Values {
-    ghost values = { λ v e. cost_at C.Cost.measure v.items e };
+    ghost values = { λ v e. cost_at C.measure v.items e };
 
     fn value(&self, edge: usize) -> Option<C> {
         if edge < 8 {

@@ -37,7 +37,7 @@ pub fn answer_to<C: Cost>(
     work: &mut [C],
     trail: &mut [Line],
 ) -> Answer<C>
-    ensures { Answers C.Cost.measure call result (book_graph book.old) work.old trail.old (book_graph book.new) work.new trail.new }
+    ensures { Answers C.measure call result (book_graph book.old) work.old trail.old (book_graph book.new) work.new trail.new }
 {
     match call {
         Call::Edit(edit) => edit_answer(book.edit(edit)),

@@ -16,7 +16,7 @@ pub fn play<C: Cost>(
     work: &mut [C],
     trail: &mut [Line],
 ) -> Result<Vec<Answer<C>>, AllocError>
-    ensures { MatchResult result (λ v. Played C.Cost.measure calls.now v.items work.old trail.old work.new trail.new) (λ _. (work.new ≡ work.old) × (trail.new ≡ trail.old)) }
+    ensures { MatchResult result (λ v. Played C.measure calls.now v.items work.old trail.old work.new trail.new) (λ _. (work.new ≡ work.old) × (trail.new ≡ trail.old)) }
 {
     let mut book = Workbook::new(heap)?;
     let mut answers = Vec::with_capacity(heap, calls.len())?;

@@ -16,4 +16,4 @@ loop-place-preserved c =
     (taking c.args.flow.now c.args.choices.now _ _ _ _ c.requires.guides c.loop-place.invariant c.in-To.is c.in-Some.is (record { from = 0; to = To 0; effect = pos 0 })).2
 
 pub returns : goal.returns
-returns c = underway_done (edges_of c.args.flow.now) c.args.choices.now c.args.flow.now.nodes c.loop-place.place _ c.in-default.not-To c.loop-place.invariant
+returns c = underway_done (edges_of c.args.flow.now) c.args.choices.now c.args.flow.now.nodes c.loop-place.place _ c.in_default.not-To c.loop-place.invariant

@@ -8,7 +8,7 @@ pub returns-then-not-leads-forward : goal.returns-then-not-leads-forward
 returns-then-not-leads-forward c = forward_fails _ _ _ _ _ c.loop-edge-test.true c.loop-edge.invariant c.if-not-leads-forward.ensures
 
 pub loop-edge-preserved : goal.loop-edge-preserved
-loop-edge-preserved c = forward_more _ _ _ _ _ c.loop-edge-test.true c.loop-edge.invariant c.if-not-leads-forward.ensures
+loop-edge-preserved c = forward_more _ _ _ _ _ c.loop-edge-test.true c.loop-edge.invariant c.if-not-leads_forward.ensures
 
 pub returns : goal.returns
-returns c = sym (at_drop_all (all_forward_lem c.args.nodes) c.args.edges.now c.loop-edge.edge_index c.loop-edge-test.false) ∙ c.loop-edge.invariant
+returns c = sym (at_drop_all (all_forward_lem c.args.nodes) c.args.edges.now c.loop-edge.edge-index c.loop-edge-test.false) ∙ c.loop-edge.invariant

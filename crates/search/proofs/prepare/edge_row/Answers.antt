@@ -3,4 +3,4 @@ use Rattle.std.proofs.lemmas.List.{take_at}
 use Rattle.search.proofs.prepare.edge_row.Goals as goal
 
 pub returns : goal.returns
-returns c = record { items = ap (take (length c.args.edges.now)) c.copy-into.ensures ∙ take_at c.args.edges.now _ _ refl; len = refl }
+returns c = record { items = ap (take (length c.args.edges.now)) c.copy_into.ensures ∙ take_at c.args.edges.now _ _ refl; len = refl }

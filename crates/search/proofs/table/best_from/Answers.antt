@@ -44,15 +44,15 @@ loop-exit-preserved g c =
     let best = c.loop-exit.best in
     let t = turn_at flow k e c.loop-exit.exit _ c.loop-exit.invariant.0 c.in-Some.is in
     let read : Edge = get_or flow.edges.items e (record { from = 0; to = To 0; effect = pos 0 }) in
-    let is : c.costlier-of-best.result ≡ costlier m best (offer m (value e) t.exit.edge.to c.args.ending table choices) e =
-    c.costlier-of-best.ensures ∙ ap (λ o. costlier m best o e) (c.offer-of.ensures ∙ ap (λ v. offer m v read.to c.args.ending table choices) c.value-of-value.ensures ∙ ap (λ (x : Edge). offer m (value e) x.to c.args.ending table choices) (t.item (record { from = 0; to = To 0; effect = pos 0 }))) in (
+    let is : c.costlier_of-best.result ≡ costlier m best (offer m (value e) t.exit.edge.to c.args.ending table choices) e =
+    c.costlier_of-best.ensures ∙ ap (λ o. costlier m best o e) (c.offer_of.ensures ∙ ap (λ v. offer m v read.to c.args.ending table choices) c.value-of-value.ensures ∙ ap (λ (x : Edge). offer m (value e) x.to c.args.ending table choices) (t.item (record { from = 0; to = To 0; effect = pos 0 }))) in (
       (suc e, t.next, subst (λ s. IsBest m (FromBelow g.C.Cost.laws value (edges_of flow) c.args.ending k (suc e)) (cost_of_lem s)) (sym is) (turn_best g.C.Cost.laws value flow c.args.ending table choices k _ e t c.requires.above best c.loop-exit.invariant.0.2)),
       subst (OnSome (IsStep m value (edges_of flow) c.args.ending table choices k)) (sym is) (turn_linked g.C.Cost.laws value flow c.args.ending table choices k _ e t c.requires.above best c.loop-exit.invariant.1),
     )
 
 pub returns : goal.returns
 returns g c =
-    let e : exit_from (edges_of c.args.flow.now) c.args.node c.loop-exit.invariant.0.0 ≡ None = sym c.loop-exit.invariant.0.1 ∙ c.in-default.is in
+    let e : exit_from (edges_of c.args.flow.now) c.args.node c.loop-exit.invariant.0.0 ≡ None = sym c.loop-exit.invariant.0.1 ∙ c.in_default.is in
     record {
       best = below_all g.C.Cost.laws _ (edges_of c.args.flow.now) c.args.ending c.args.node c.loop-exit.invariant.0.0 _ (exit_none (edges_of c.args.flow.now) c.args.node c.loop-exit.invariant.0.0 e) c.loop-exit.invariant.0.2;
       linked = c.loop-exit.invariant.1;

@@ -7,7 +7,7 @@ pub returns-then-not-is-told : goal.returns-then-not-is-told
 returns-then-not-is-told c = useful_fails c.args.flow.now _ _ _ _ c.loop-j-test.true _ c.loop-j.invariant c.if-not-is-told.ensures
 
 pub loop-j-preserved : goal.loop-j-preserved
-loop-j-preserved c = useful_more c.args.flow.now _ _ _ _ c.loop-j-test.true _ c.loop-j.invariant c.if-not-is-told.ensures
+loop-j-preserved c = useful_more c.args.flow.now _ _ _ _ c.loop-j-test.true _ c.loop-j.invariant c.if-not-is_told.ensures
 
 pub returns : goal.returns
 returns c = sym (ap (λ fs. useful fs c.args.pass c.loop-j.digits) (facts_all c.args.flow.now c.loop-j.j c.loop-j-test.false)) ∙ c.loop-j.invariant

@@ -6,7 +6,7 @@ use Rattle.search.proofs.usable.usable_edges.Goals as goal
 pub loop-e-preserved : goal.loop-e-preserved
 loop-e-preserved c = (
   simp length-set c.loop-e.invariant.0,
-  usable_more c.args.flow.now c.args.pass c.args.round c.loop-e.e _ c.loop-e.usable _ c.loop-e.invariant.0 c.loop-e-test.true c.is-left.ensures c.loop-e.invariant.1,
+  usable_more c.args.flow.now c.args.pass c.args.round c.loop-e.e _ c.loop-e.usable _ c.loop-e.invariant.0 c.loop-e-test.true c.is_left.ensures c.loop-e.invariant.1,
 )
 
 pub returns : goal.returns

@@ -2,7 +2,7 @@ use Rattle.std.proofs.Common.{◌≡◌, ℕ, ◌+◌, ◌^◌, ◌≤◌, lengt
 use Rattle.search.specs.Flows.{facts_of}
 use Rattle.search.proofs.Rounded.{AreRounds, rounds_skip, rounds_more, rounds_all}
 use Rattle.search.proofs.flow.Flow.costliest.Goals as goal
-use Rattle.search.proofs.flow.Flow.costliest.Goals.{then-is-useful, else-is-useful}
+use Rattle.search.proofs.flow.Flow.costliest.Goals.{then-is_useful, else-is_useful}
 
 pub loop-round-preserved : goal.loop-round-preserved
 loop-round-preserved g c =
@@ -10,11 +10,11 @@ loop-round-preserved g c =
     let value = g.V.EdgeValues.values c.args.values.now in
     let f = c.args.self.now in
     let i = c.loop-round.round in
-    elim c.if-is-useful.branch [
-      | then-is-useful w ↦
+    elim c.if-is_useful.branch [
+      | then-is_useful w ↦
           subst (AreRounds laws value f c.args.pass c.args.ending (i + 1)) (sym (w.best-is ∙ w.costlier-pass-best.ensures))
           (rounds_more laws value f c.args.pass c.args.ending i c.loop-round.best w.round_best_lem.result w.if-is-useful.ensures w.round_best_lem.ensures c.loop-round.invariant)
-      | else-is-useful w ↦
+      | else-is_useful w ↦
           subst (AreRounds laws value f c.args.pass c.args.ending (i + 1)) (sym w.best-is)
           (rounds_skip laws value f c.args.pass c.args.ending i c.loop-round.best w.if-is-useful.ensures c.loop-round.invariant)
     ]
