@@ -13,11 +13,11 @@ use Rattle.search.proofs.table.best_from.Goals as goal
 pub bounds-flow-edge : goal.bounds-flow-edge
 bounds-flow-edge g c = (turn_at c.args.flow.now c.args.node c.in-Some.e c.loop-exit.exit _ c.loop-exit.invariant.0 c.in-Some.is).small
 
-pub value-of-value-requires : goal.value-of-value-requires
-value-of-value-requires g c = (turn_at c.args.flow.now c.args.node c.in-Some.e c.loop-exit.exit _ c.loop-exit.invariant.0 c.in-Some.is).small
+pub value_of-value-requires : goal.value_of-value-requires
+value_of-value-requires g c = (turn_at c.args.flow.now c.args.node c.in-Some.e c.loop-exit.exit _ c.loop-exit.invariant.0 c.in-Some.is).small
 
-pub offer-of-requires : goal.offer-of-requires
-offer-of-requires g c κs v h =
+pub offer_of-requires : goal.offer_of-requires
+offer_of-requires g c v h =
     let t = turn_at c.args.flow.now c.args.node c.in-Some.e c.loop-exit.exit _ c.loop-exit.invariant.0 c.in-Some.is in
     let r = turn_to c.args.flow.now c.args.node _ c.in-Some.e t v (ap (λ (x : Edge). x.to) (sym (t.item _)) ∙ h) in
     let n = c.args.flow.now.fewnodes in
@@ -45,7 +45,7 @@ loop-exit-preserved g c =
     let t = turn_at flow k e c.loop-exit.exit _ c.loop-exit.invariant.0 c.in-Some.is in
     let read : Edge = get_or flow.edges.items e (record { from = 0; to = To 0; effect = pos 0 }) in
     let is : c.costlier_of-best.result ≡ costlier m best (offer m (value e) t.exit.edge.to c.args.ending table choices) e =
-    c.costlier_of-best.ensures ∙ ap (λ o. costlier m best o e) (c.offer_of.ensures ∙ ap (λ v. offer m v read.to c.args.ending table choices) c.value-of-value.ensures ∙ ap (λ (x : Edge). offer m (value e) x.to c.args.ending table choices) (t.item (record { from = 0; to = To 0; effect = pos 0 }))) in (
+    c.costlier_of-best.ensures ∙ ap (λ o. costlier m best o e) (c.offer_of.ensures ∙ ap (λ v. offer m v read.to c.args.ending table choices) c.value_of-value.ensures ∙ ap (λ (x : Edge). offer m (value e) x.to c.args.ending table choices) (t.item (record { from = 0; to = To 0; effect = pos 0 }))) in (
       (suc e, t.next, subst (λ s. IsBest m (FromBelow g.C.Cost.laws value (edges_of flow) c.args.ending k (suc e)) (cost_of_lem s)) (sym is) (turn_best g.C.Cost.laws value flow c.args.ending table choices k _ e t c.requires.above best c.loop-exit.invariant.0.2)),
       subst (OnSome (IsStep m value (edges_of flow) c.args.ending table choices k)) (sym is) (turn_linked g.C.Cost.laws value flow c.args.ending table choices k _ e t c.requires.above best c.loop-exit.invariant.1),
     )
