@@ -3,5 +3,5 @@ use Rattle.plain.proofs.copy.copy_flow.Goals as goal
 
 pub returns : goal.returns
 returns g c = λ s is.
-    flow_copied (g.G.ScopeGraph.graph c.args.graph.now) c.args.scope s is c.args.nodes c.in-ok-edges.edges c.in-ok-facts.facts c.copy-items.new.table c.copy-items-2.new.table c.new.result
-    c.in-ok-edges.ensures c.in-ok-facts.ensures c.copy-items.ensures c.copy-items-2.ensures c.new.ensures
+    flow_copied (g.G.ScopeGraph.graph c.args.graph.now) c.args.scope s is c.args.nodes c.in_ok-edges.edges c.in_ok-facts.facts c.copy_items.new.table c.copy_items-2.new.table c.new.result
+    c.in_ok-edges.ensures c.in_ok-facts.ensures c.copy_items.ensures c.copy_items-2.ensures c.new.ensures

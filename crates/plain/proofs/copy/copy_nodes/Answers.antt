@@ -6,5 +6,5 @@ pub returns : goal.returns
 returns g c = λ s is. (
   omega arith,
   omega arith,
-  list_copied (g.G.ScopeGraph.graph c.args.graph.now) c.args.scope s is (λ x. x.nodes) c.in-ok-len.len c.copy-items.new.table c.in-ok-len.ensures c.copy-items.ensures,
+  list_copied (g.G.ScopeGraph.graph c.args.graph.now) c.args.scope s is (λ x. x.nodes) c.in_ok-len.len c.copy_items.new.table c.in_ok-len.ensures c.copy_items.ensures,
 )

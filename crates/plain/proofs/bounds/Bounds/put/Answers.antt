@@ -51,5 +51,5 @@ returns-in-14 g c = ap (λ k. set (bounds_of c.args.self.now) k c.args.bound) (s
 pub returns-in-15 : goal.returns-in-15
 returns-in-15 g c = ap (λ k. set (bounds_of c.args.self.now) k c.args.bound) (sym c.in-15.is)
 
-pub returns-in-default : goal.returns-in-default
-returns-in-default g c = sym (set_past (bounds_of c.args.self.now) c.args.scope c.args.bound (omega (arith, c.in-default)))
+pub returns-in_default : goal.returns-in_default
+returns-in_default g c = sym (set_past (bounds_of c.args.self.now) c.args.scope c.args.bound (omega (arith, c.in_default)))

@@ -5,7 +5,7 @@ use Rattle.search.specs.Flows.{facts_of}
 use Rattle.plain.proofs.Copying.{some_there}
 use Rattle.plain.proofs.Ends.{cut_more}
 use Rattle.plain.proofs.plain_scope.PlainScope.range_end.Goals as goal
-use Rattle.plain.proofs.plain_scope.PlainScope.range_end.Goals.{in-Some, in-default}
+use Rattle.plain.proofs.plain_scope.PlainScope.range_end.Goals.{in-Some, in_default}
 
 pub loop-i-init : goal.loop-i-init
 loop-i-init c = λ h proper. cut_none c.args.first c.args.self.now.most h
@@ -16,7 +16,7 @@ loop-i-preserved c = λ h proper.
     let k : c.loop-i.i < length facts = omega (arith, c.facts-i-end.ensures, c.loop-i-test.true) in
     elim c.match-fact.branch [
       | in-Some w ↦ subst (IsCut (take (c.loop-i.i + 1) facts) c.args.first c.args.self.now.most) (sym (w.end-is ∙ w.cut-end.ensures)) (cut_more facts c.loop-i.i w.in-Some.fact c.args.first c.args.self.now.most c.loop-i.end k w.in-Some.ensures (proper c.loop-i.i w.in-Some.fact (sym w.in-Some.ensures)) (c.loop-i.invariant h proper))
-      | in-default w ↦ absurd (some_there facts c.loop-i.i w.in-default.ensures k)
+      | in_default w ↦ absurd (some_there facts c.loop-i.i w.in_default.ensures k)
     ]
 
 pub returns : goal.returns
