@@ -17,12 +17,12 @@ loop-edge-smaller c = let n = nth_inside (way_edges c.args.way.now) _ _ c.in-Som
 pub loop-edge-preserved : goal.loop-edge-preserved
 loop-edge-preserved c =
     let n = nth_inside (way_edges c.args.way.now) _ _ c.in-Some.ensures in
-    (omega arith, way_step (scope_of c.args.scope.now) c.args.trail.now c.loop-edge.trail c.args.at c.loop-edge.n (way_edges c.args.way.now) c.in-Some.edge _ c.in-Some.ensures c.requires c.edge-line.ensures c.loop-edge.invariant.1)
+    (omega arith, way_step (scope_of c.args.scope.now) c.args.trail.now c.loop-edge.trail c.args.at c.loop-edge.n (way_edges c.args.way.now) c.in-Some.edge _ c.in-Some.ensures c.requires c.edge_line.ensures c.loop-edge.invariant.1)
 
 pub returns : goal.returns
 returns c =
     let es = way_edges c.args.way.now in
     record {
-      lines = way_done (scope_of c.args.scope.now) c.args.trail.now _ c.args.at c.loop-edge.n es c.in-default.ensures c.loop-edge.invariant.1;
-      end = way_end c.args.at c.loop-edge.n es c.in-default.ensures c.loop-edge.invariant.0;
+      lines = way_done (scope_of c.args.scope.now) c.args.trail.now _ c.args.at c.loop-edge.n es c.in_default.ensures c.loop-edge.invariant.1;
+      end = way_end c.args.at c.loop-edge.n es c.in_default.ensures c.loop-edge.invariant.0;
     }

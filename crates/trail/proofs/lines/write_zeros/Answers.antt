@@ -11,4 +11,4 @@ loop-i-init c =
     written_none c.args.trail.now c.args.at ∙ ap (λ k. written c.args.trail.now c.args.at (replicate k (line 0 0 0))) e
 
 pub loop-i-preserved : goal.loop-i-preserved
-loop-i-preserved c = copy_step c.args.trail.now c.loop-i.trail c.args.at c.loop-i.i _ (line 0 0 0) (omega arith) (omega arith) c.zero-line.ensures c.loop-i.invariant
+loop-i-preserved c = copy_step c.args.trail.now c.loop-i.trail c.args.at c.loop-i.i _ (line 0 0 0) (omega arith) (omega arith) c.zero_line.ensures c.loop-i.invariant
