@@ -9,25 +9,25 @@ use Rattle.bound.proofs.solve.solve.Goals as goal
 
 pub returns-in-None : goal.returns-in-None
 returns-in-None g c =
-    ended_best g.C.Cost.laws (scope_of c.args.scope.now) (g.V.EdgeValues.values c.args.values.now) c.search-ranges-progress.result c.search-ranges-progress.ensures.sofar c.search-ranges-progress.ensures.ended None c.in-None.is
+    ended_best g.C.Cost.laws (scope_of c.args.scope.now) (g.V.EdgeValues.values c.args.values.now) c.search_ranges-progress.result c.search_ranges-progress.ensures.sofar c.search_ranges-progress.ensures.ended None c.in-None.is
 
 pub returns-in-Some : goal.returns-in-Some
 returns-in-Some g c =
     let m = g.C.Cost.measure in
     let s = scope_of c.args.scope.now in
     let value = g.V.EdgeValues.values c.args.values.now in
-    let p = c.search-ranges-progress.result in
+    let p = c.search_ranges-progress.result in
     let gs = groups_of p.groups in
     let x = c.in-Some.choice in
-    let so = c.search-ranges-progress.ensures.sofar in
+    let so = c.search_ranges-progress.ensures.sofar in
     let stands = subst (OnSome (λ y. IsChoice m s value (take y.whole gs) y × (y.whole ≤ 8) × (y.whole ≤ length gs))) c.in-Some.is so.choice in (
-      subst (λ o. IsRunsBest m s value (Some o)) (sym c.solution-of.ensures.cost) (ended_best g.C.Cost.laws s value p so c.search-ranges-progress.ensures.ended (Some x) c.in-Some.is),
+      subst (λ o. IsRunsBest m s value (Some o)) (sym c.solution_of.ensures.cost) (ended_best g.C.Cost.laws s value p so c.search_ranges-progress.ensures.ended (Some x) c.in-Some.is),
       record {
         fronts = take x.whole gs;
         choice = x;
         stands = stands.0;
-        groups = c.solution-of.ensures.groups;
-        cost = c.solution-of.ensures.cost;
-        passes = c.solution-of.ensures.passes;
+        groups = c.solution_of.ensures.groups;
+        cost = c.solution_of.ensures.cost;
+        passes = c.solution_of.ensures.passes;
       },
     )

@@ -8,8 +8,8 @@ use Rattle.bound.proofs.turn.turn.Goals as goal
 pub returns : goal.returns
 returns g c =
     let p = c.args.progress in
-    let r = turned g.C.Cost.laws (scope_of c.args.scope.now) (g.V.EdgeValues.values c.args.values.now) p.done c.range-end-last.result c.next-pass-first.result c.len.result c.args.front p.front c.joined-of.result c.powers-of-copies.result
-    (groups_of p.groups) (groups_of c.push.new.self) p.best c.better-of.result c.choice-in-found.result c.pass-with-on.result c.pass-with-off.result c.push.result
-    c.requires.goes c.requires.sofar c.requires.more c.next-pass-first.ensures (c.range-end-last.ensures (omega (arith, c.next-pass-first.ensures, c.requires.more)) c.requires.proper)
-    c.pass-with-on.ensures c.pass-with-off.ensures c.len.ensures.count c.choice-in-found.ensures c.push.ensures.room c.push.ensures.groups (c.powers-of-copies.ensures ∙ ap (powers g.C.Cost.measure c.pass-with-on.result.cost) c.from.ensures) c.joined-of.ensures c.better-of.ensures in
+    let r = turned g.C.Cost.laws (scope_of c.args.scope.now) (g.V.EdgeValues.values c.args.values.now) p.done c.range_end-last.result c.next_pass-first.result c.len.result c.args.front p.front c.joined_of.result c.powers_of-copies.result
+    (groups_of p.groups) (groups_of c.push.new.self) p.best c.better_of.result c.choice_in-found.result c.pass_with-on.result c.pass_with-off.result c.push.result
+    c.requires.goes c.requires.sofar c.requires.more c.next_pass-first.ensures (c.range_end-last.ensures (omega (arith, c.next_pass-first.ensures, c.requires.more)) c.requires.proper)
+    c.pass_with-on.ensures c.pass_with-off.ensures c.len.ensures.count c.choice_in-found.ensures c.push.ensures.room c.push.ensures.groups (c.powers_of-copies.ensures ∙ ap (powers g.C.Cost.measure c.pass_with-on.result.cost) c.from.ensures) c.joined_of.ensures c.better_of.ensures in
     record { further = r.0; sofar = r.1 }
