@@ -6,13 +6,13 @@ use Rattle.workbook.specs.Tables.{graph_of}
 use Rattle.workbook.proofs.Describing.{there, not_there, present, undoable, described_added, described_nowhere}
 use Rattle.workbook.proofs.book.Workbook.add_call.Goals as goal
 
-pub returns-in-default : goal.returns-in-default
-returns-in-default c =
+pub returns-in_default : goal.returns-in_default
+returns-in_default c =
     let g = graph_of c.args.self.now.tables in
-    described_nowhere g (AddCall c.args.scope c.args.callee) g (not_there g c.args.scope (λ x. length x.nodes) (sym c.in-default.ensures)) refl
+    described_nowhere g (AddCall c.args.scope c.args.callee) g (not_there g c.args.scope (λ x. length x.nodes) (sym c.in_default.ensures)) refl
 
-pub try-step-tried-requires : goal.try-step-tried-requires
-try-step-tried-requires c =
+pub try_step-tried-requires : goal.try_step-tried-requires
+try_step-tried-requires c =
     let g = graph_of c.args.self.now.tables in
     let w = there g c.args.scope (λ x. length x.nodes) _ (sym c.in-Some.ensures) in
     undoable g c.args.scope (PushNode (Call c.args.callee)) w.0 w.1 tt
@@ -21,4 +21,4 @@ pub returns : goal.returns
 returns c =
     let g = graph_of c.args.self.now.tables in
     let w = there g c.args.scope (λ x. length x.nodes) _ (sym c.in-Some.ensures) in
-    described_added g (AddCall c.args.scope c.args.callee) (present g c.args.scope w.0 w.1) (λ x o. absurd o) c.in-Some.number _ _ _ c.numbered-by.ensures c.in-Some.ensures c.try-step-tried.ensures
+    described_added g (AddCall c.args.scope c.args.callee) (present g c.args.scope w.0 w.1) (λ x o. absurd o) c.in-Some.number _ _ _ c.numbered_by.ensures c.in-Some.ensures c.try_step-tried.ensures

@@ -8,8 +8,8 @@ use Rattle.workbook.proofs.book.Workbook.set_passes.Goals as goal
 pub returns-then-scope-scopes : goal.returns-then-scope-scopes
 returns-then-scope-scopes c = let g = graph_of c.args.self.now.tables in described_nowhere g (SetPasses c.args.scope c.args.least c.args.most) g (omega (arith, c.scopes.ensures)) refl
 
-pub try-step-requires : goal.try-step-requires
-try-step-requires c =
+pub try_step-requires : goal.try_step-requires
+try_step-requires c =
     let g = graph_of c.args.self.now.tables in
     let w = at_below g c.args.scope (omega (arith, c.scopes.ensures)) in
     undoable g c.args.scope (Passes c.args.least c.args.most) w.0 w.1 tt
@@ -18,4 +18,4 @@ pub returns : goal.returns
 returns c =
     let g = graph_of c.args.self.now.tables in
     let w = at_below g c.args.scope (omega (arith, c.scopes.ensures)) in
-    described_set g (SetPasses c.args.scope c.args.least c.args.most) (present g c.args.scope w.0 w.1) (λ x o. absurd o) _ _ refl c.try-step.ensures
+    described_set g (SetPasses c.args.scope c.args.least c.args.most) (present g c.args.scope w.0 w.1) (λ x o. absurd o) _ _ refl c.try_step.ensures

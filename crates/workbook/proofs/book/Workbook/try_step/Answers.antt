@@ -20,11 +20,11 @@ apply-requires-in-Some c =
     let Q : List Scope → Type 0 = λ x. RoomAt c.inverse-inverse.result (slice_get x c.args.scope) in
     subst Q (sym c.apply.ensures) (subst P (sym c.inverse-inverse.ensures) h)
 
-pub invariant-of-self-in-Some : goal.invariant-of-self-in-Some
-invariant-of-self-in-Some c =
+pub invariant_of-self-in-Some : goal.invariant_of-self-in-Some
+invariant_of-self-in-Some c =
     let g = graph_of c.args.self.now.tables in
     let e = restored g _ _ c.args.scope c.args.step _ c.requires c.inverse-inverse.ensures c.apply.ensures c.apply-in-Some.ensures in
-    (subst (KeepsFrom 22) (sym e) c.args.self.now.kept, tt)
+    record { kept = subst (KeepsFrom 22) (sym e) c.args.self.now.kept }
 
 pub returns-in-Some : goal.returns-in-Some
 returns-in-Some c =

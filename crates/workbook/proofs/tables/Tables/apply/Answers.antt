@@ -13,13 +13,13 @@ apply-requires c =
     let xs = vec_items c.args.self.now.scopes in
     let h : c.args.scope < length xs = omega arith in
     let P : Option Scope → Type 0 = λ o. RoomAt c.args.step o in
-    subst P (nth_map_at xs c.args.scope _ h c.index-mut.ensures.value) c.requires
+    subst P (nth_map_at xs c.args.scope _ h c.index_mut.ensures.value) c.requires
 
 pub returns-then-scope-len : goal.returns-then-scope-len
 returns-then-scope-len c =
     let xs = vec_items c.args.self.now.scopes in
     let h : c.args.scope < length xs = omega arith in
-    set_changed (apply_to c.args.step) xs c.args.scope _ c.apply.new.self h c.index-mut.ensures.value c.apply.ensures
+    set_changed (apply_to c.args.step) xs c.args.scope _ c.apply.new.self h c.index_mut.ensures.value c.apply.ensures
 
 pub returns-else-scope-len : goal.returns-else-scope-len
 returns-else-scope-len c =

@@ -4,10 +4,10 @@ use Rattle.workbook.specs.Sheets.{scope_of}
 use Rattle.workbook.proofs.Meanings.{closed}
 use Rattle.workbook.proofs.tables.Tables.close_scope.Goals as goal
 
-pub take-last-sheet-requires : goal.take-last-sheet-requires
-take-last-sheet-requires c =
+pub take_last-sheet-requires : goal.take_last-sheet-requires
+take_last-sheet-requires c =
     let e = length-map (vec_items c.args.self.now.scopes) scope_of in
     omega (arith, e, c.requires, c.args.self.now.scopes.ok.0)
 
 pub returns : goal.returns
-returns c = closed (vec_items c.args.self.now.scopes) _ _ c.take-last-sheet.ensures.items
+returns c = closed (vec_items c.args.self.now.scopes) _ _ c.take_last-sheet.ensures.items
