@@ -97,7 +97,10 @@ pub(crate) fn check_table(
     cases: &[(&[Record], u8)],
 ) -> Result<(), Fail> {
     for (records, expected) in cases {
-        assert_eq!(number(rt, &[(1, start), (1, records)])?, *expected);
+        let found = number(rt, &[(1, start), (1, records)])?;
+        if found != *expected {
+            return Err(Fail::new(format_args!("{found}, not {expected}")));
+        }
     }
     Ok(())
 }

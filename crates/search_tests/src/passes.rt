@@ -11,14 +11,18 @@ use search::ending::Ending::{Again, Leave};
 use search::flow::Flow;
 use search::way::Way;
 use std::fmt::Debug;
-use std::process::Abort;
 use std::test::Fail;
 
-fn check_way(rt: &impl Abort, way: Way, expected: &[u8]) {
-    assert_eq!(rt; way.len(), expected.len());
-    for i in 0..expected.len() {
-        assert_eq!(rt; way.edge(i), Some(expected[i]));
+fn check_way(way: Way, expected: &[u8]) -> Result<(), Fail> {
+    if way.len() != expected.len() {
+        return Err(Fail::new("a way of another length"));
     }
+    for i in 0..expected.len() {
+        if way.edge(i) != Some(expected[i]) {
+            return Err(Fail::new(format_args!("another edge number {i}")));
+        }
+    }
+    Ok(())
 }
 
 // What a table of cases expects of a pass: the cost of this weight and stack, and this way.
@@ -26,7 +30,6 @@ type Expected<'a> = (Option<(u32, u16)>, &'a [u8]);
 
 // The costliest pass number 3, where all edges but one have a value.
 fn check_pass<C: Cost + PartialEq + Debug + Drop>(
-    rt: &impl Abort,
     graph: Small<'_>,
     facts: &[Fact],
     without: usize,
@@ -40,14 +43,14 @@ fn check_pass<C: Cost + PartialEq + Debug + Drop>(
     let Some(found) = flow.costliest(&graph.values(without), 3, ending, table) else {
         return Err(Fail::new("no search"));
     };
-    assert_eq!(rt; found.cost, cost_of(cost));
-    check_way(rt, found.way, way);
-    Ok(())
+    if found.cost != cost_of(cost) {
+        return Err(Fail::new("another cost"));
+    }
+    check_way(found.way, way)
 }
 
 // The same under both measures.
 fn check_both(
-    rt: &impl Abort,
     graph: Small<'_>,
     facts: &[Fact],
     without: usize,
@@ -55,16 +58,16 @@ fn check_both(
     expected: Expected<'_>,
 ) -> Result<(), Fail> {
     let mut cycles = [Cycles::nothing(); 32];
-    check_pass(rt, graph, facts, without, ending, expected, &mut cycles)?;
+    check_pass(graph, facts, without, ending, expected, &mut cycles)?;
     let mut stack = [Stack::nothing(); 32];
-    check_pass(rt, graph, facts, without, ending, expected, &mut stack)
+    check_pass(graph, facts, without, ending, expected, &mut stack)
 }
 
 // All edges have values.
 const ALL: usize = 8;
 
 #[test]
-fn branches(rt: HostRuntime) -> Result<(), Fail> {
+fn branches() -> Result<(), Fail> {
     let graph = Small {
         blocks: &[(5, 8), (10, 40), (3, 16), (2, 8)],
         edges: &[
@@ -76,8 +79,8 @@ fn branches(rt: HostRuntime) -> Result<(), Fail> {
             edge(3, Target::Leave, 0),
         ],
     };
-    check_both(&rt, graph, &[], ALL, Again, (Some((13, 40)), &[0, 2, 4]))?;
-    check_both(&rt, graph, &[], ALL, Leave, (Some((14, 40)), &[0, 2, 5]))?;
+    check_both(graph, &[], ALL, Again, (Some((13, 40)), &[0, 2, 4]))?;
+    check_both(graph, &[], ALL, Leave, (Some((14, 40)), &[0, 2, 5]))?;
     let cases: [(Constraint, Expected<'_>, Expected<'_>); 7] = [
         (
             Bar(1),
@@ -113,14 +116,14 @@ fn branches(rt: HostRuntime) -> Result<(), Fail> {
             first: 2,
             last: 3,
         }];
-        check_both(&rt, graph, &facts, ALL, Again, again)?;
-        check_both(&rt, graph, &facts, ALL, Leave, leave)?;
+        check_both(graph, &facts, ALL, Again, again)?;
+        check_both(graph, &facts, ALL, Leave, leave)?;
     }
     Ok(())
 }
 
 #[test]
-fn facts_out_of_force(rt: HostRuntime) -> Result<(), Fail> {
+fn facts_out_of_force() -> Result<(), Fail> {
     let graph = Small {
         blocks: &[(1, 8), (9, 16)],
         edges: &[
@@ -141,13 +144,13 @@ fn facts_out_of_force(rt: HostRuntime) -> Result<(), Fail> {
             first,
             last,
         };
-        check_both(&rt, graph, &[bar], ALL, Leave, leave)?;
+        check_both(graph, &[bar], ALL, Leave, leave)?;
     }
     Ok(())
 }
 
 #[test]
-fn without_facts(rt: HostRuntime) -> Result<(), Fail> {
+fn without_facts() -> Result<(), Fail> {
     // node 3 is reached by a short way and by a longer, costlier one
     let detour = Small {
         blocks: &[(1, 8), (10, 16), (10, 40), (1, 8)],
@@ -181,7 +184,7 @@ fn without_facts(rt: HostRuntime) -> Result<(), Fail> {
         (empty, ALL, Again, (None, &[])),
     ];
     for (graph, without, ending, expected) in cases {
-        check_both(&rt, graph, &[], without, ending, expected)?;
+        check_both(graph, &[], without, ending, expected)?;
     }
     Ok(())
 }
