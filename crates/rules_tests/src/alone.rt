@@ -1,7 +1,7 @@
 // Each rule alone, at its edge.
 use crate::record::Record::{Bar, Block, Call, Edge, Must, Pair, Scope};
 use crate::record::{AGAIN, LEAVE, Record, check_table};
-use std::test::*;
+use std::test::Fail;
 
 #[test]
 fn passes(rt: HostRuntime) -> Result<(), Fail> {

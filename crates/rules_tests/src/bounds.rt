@@ -5,7 +5,7 @@ use analysis::analyze::analyze;
 use image::open::open;
 use measures::cycles::Cycles;
 use model::trail::Line;
-use std::test::*;
+use std::test::Fail;
 
 // The bound in cycles, or the number of the refusal.
 fn answer(rt: &HostRuntime, work: &mut [Cycles], records: &[Record]) -> Result<(u64, u8), Fail> {

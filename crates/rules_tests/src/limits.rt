@@ -1,7 +1,7 @@
 // The limits, at their edges.
 use crate::record::Record::{Bar, Block, Edge, Scope};
 use crate::record::{LEAVE, Record, number};
-use std::test::*;
+use std::test::Fail;
 
 #[test]
 fn counts(rt: HostRuntime) -> Result<(), Fail> {

@@ -3,7 +3,7 @@ use crate::record::Record::{Call, Scope};
 use crate::record::{Record, image};
 use image::open::open;
 use rules::order::call_order;
-use std::test::*;
+use std::test::Fail;
 
 // The first four scopes of the order, in one number, or 0 where there is none.
 fn order(rt: &HostRuntime, scopes: usize, calls: &[Record]) -> Result<u32, Fail> {

@@ -1,7 +1,7 @@
 // Two rules broken: the smaller number wins, though it stands later.
 use crate::record::Record::{Bar, Block, Call, Edge, Scope};
 use crate::record::{LEAVE, Record, check_table};
-use std::test::*;
+use std::test::Fail;
 
 #[test]
 fn smaller_wins(rt: HostRuntime) -> Result<(), Fail> {

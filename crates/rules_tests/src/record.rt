@@ -2,7 +2,7 @@
 use image::open::open;
 use rules::judge::first_broken;
 use std::alloc::AllocError;
-use std::test::*;
+use std::test::Fail;
 
 #[derive(Clone, Copy)]
 pub enum Record {

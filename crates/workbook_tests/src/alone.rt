@@ -2,7 +2,7 @@
 use crate::step::Step::{Bar, Block, Call, Edge, Figures, Pair, Passes, Scope, Strike};
 use crate::step::check_table;
 use model::graph::Target::{Again, Leave, To};
-use std::test::*;
+use std::test::Fail;
 
 // A missing scope comes before all else.
 #[test]

@@ -2,7 +2,7 @@
 use crate::step::Step::{Bar, Block, Call, Edge, Scope, Strike};
 use crate::step::{Step, built, check_step};
 use model::graph::Target::Leave;
-use std::test::*;
+use std::test::Fail;
 
 // After so many of a step, the next one and the number of its refusal.
 #[test]

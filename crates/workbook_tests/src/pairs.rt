@@ -2,7 +2,7 @@
 use crate::step::Step::{Bar, Block, Edge, Passes, Scope};
 use crate::step::check_table;
 use model::graph::Target::To;
-use std::test::*;
+use std::test::Fail;
 
 #[test]
 fn smaller_wins(rt: HostRuntime) -> Result<(), Fail> {

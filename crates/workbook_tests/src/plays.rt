@@ -6,7 +6,7 @@ use model::graph::Target::{Again, Leave, To};
 use model::trail::Line;
 use session::call::{Answer, Call};
 use session::play::play;
-use std::test::*;
+use std::test::Fail;
 
 // A step, or none for a working out; and its answer: n and a number given, d for done, r and the number of a refusal,
 // b and a bound.

@@ -2,7 +2,7 @@
 use crate::step::Step::{Bar, Block, Call, Edge, Figures, Passes, Scope, Strike};
 use crate::step::check_table;
 use model::graph::Target::Leave;
-use std::test::*;
+use std::test::Fail;
 
 #[test]
 fn new_passes(rt: HostRuntime) -> Result<(), Fail> {

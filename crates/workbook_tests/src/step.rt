@@ -1,7 +1,7 @@
 // Calls on a workbook, written short.
 use model::graph::{Constraint, Edge, Fact, Node, Target};
 use model::scope_graph::ScopeGraph;
-use std::test::*;
+use std::test::Fail;
 use workbook::book::Workbook;
 use workbook::edit::Edit;
 
