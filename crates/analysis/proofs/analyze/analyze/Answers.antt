@@ -15,41 +15,41 @@ returns-then-work-lt-WORK g c = refused (short_work (omega arith)) refl refl
 pub returns-in-Some : goal.returns-in-Some
 returns-in-Some g c = refused (broken (omega arith) c.in-Some.ensures) refl refl
 
-pub overflow-mul-scopes : goal.overflow-mul-scopes
-overflow-mul-scopes g c =
+pub overflow_mul-scopes : goal.overflow_mul-scopes
+overflow_mul-scopes g c =
     let G = g.G.ScopeGraph.graph c.args.graph.now in
-    let few = few_scopes G (keeps_from G c.in-default.ensures) in
+    let few = few_scopes G (keeps_from G c.in_default.ensures) in
     omega (arith, few, c.scopes.ensures)
 
 pub returns-then-trail-scopes : goal.returns-then-trail-scopes
-returns-then-trail-scopes g c = refused (short_trail (omega arith) c.in-default.ensures (omega (arith, c.scopes.ensures, c.if-trail-scopes.true))) refl refl
+returns-then-trail-scopes g c = refused (short_trail (omega arith) c.in_default.ensures (omega (arith, c.scopes.ensures, c.if-trail-scopes.true))) refl refl
 
-pub returns-in-default-call-order : goal.returns-in-default-call-order
-returns-in-default-call-order g c =
+pub returns-in_default-call_order : goal.returns-in_default-call_order
+returns-in_default-call_order g c =
     let G = g.G.ScopeGraph.graph c.args.graph.now in
-    let w = order_there G (keeps_from G c.in-default.ensures) _ c.call-order.ensures in
-    absurd (none_some (sym c.in-default-call-order.is ∙ w.1))
+    let w = order_there G (keeps_from G c.in_default.ensures) _ c.call_order.ensures in
+    absurd (none_some (sym c.in_default-call_order.is ∙ w.1))
 
 pub returns-then-marks-offset0 : goal.returns-then-marks-offset0
 returns-then-marks-offset0 g c =
     let G = g.G.ScopeGraph.graph c.args.graph.now in
     let m = g.C.Cost.measure in
-    let kept = c.in-default.ensures in
+    let kept = c.in_default.ensures in
     let few = few_scopes G (keeps_from G kept) in
-    let bounds = bounds_of c.settle-all-marks.result.bounds in
-    let solved = c.settle-all-marks.result.solved in
-    let last = c.settle-all-marks.new.trail in
-    answered_bound m G kept bounds c.args.work.now c.write-bounds.new.work c.args.trail.now last solved (settled_all m G bounds last solved c.in-Some-call-order.order c.in-Some-call-order.ensures c.settle-all-marks.ensures.settled)
-    (λ i h. c.write-bounds.ensures i (omega (arith, few, h))) c.settle-all-marks.ensures.rest (omega arith) (omega (arith, c.scopes.ensures, c.if-trail-scopes.false)) c.if-marks-offset0.true c.index-work-0.result (omega arith) c.index-work-0.is
+    let bounds = bounds_of c.settle_all-marks.result.bounds in
+    let solved = c.settle_all-marks.result.solved in
+    let last = c.settle_all-marks.new.trail in
+    answered_bound m G kept bounds c.args.work.now c.write_bounds.new.work c.args.trail.now last solved (settled_all m G bounds last solved c.in-Some-call_order.order c.in-Some-call_order.ensures c.settle_all-marks.ensures.settled)
+    (λ i h. c.write_bounds.ensures i (omega (arith, few, h))) c.settle_all-marks.ensures.rest (omega arith) (omega (arith, c.scopes.ensures, c.if-trail-scopes.false)) c.if-marks-offset0.true c.index-work-0.result (omega arith) c.index-work-0.is
 
 pub returns-else-marks-offset0 : goal.returns-else-marks-offset0
 returns-else-marks-offset0 g c =
     let G = g.G.ScopeGraph.graph c.args.graph.now in
     let m = g.C.Cost.measure in
-    let kept = c.in-default.ensures in
+    let kept = c.in_default.ensures in
     let few = few_scopes G (keeps_from G kept) in
-    let bounds = bounds_of c.settle-all-marks.result.bounds in
-    let solved = c.settle-all-marks.result.solved in
-    let last = c.settle-all-marks.new.trail in
-    answered_none m G kept bounds c.args.work.now c.write-bounds.new.work c.args.trail.now last solved (settled_all m G bounds last solved c.in-Some-call-order.order c.in-Some-call-order.ensures c.settle-all-marks.ensures.settled)
-    (λ i h. c.write-bounds.ensures i (omega (arith, few, h))) c.settle-all-marks.ensures.rest (omega arith) (omega (arith, c.scopes.ensures, c.if-trail-scopes.false)) c.if-marks-offset0.false
+    let bounds = bounds_of c.settle_all-marks.result.bounds in
+    let solved = c.settle_all-marks.result.solved in
+    let last = c.settle_all-marks.new.trail in
+    answered_none m G kept bounds c.args.work.now c.write_bounds.new.work c.args.trail.now last solved (settled_all m G bounds last solved c.in-Some-call_order.order c.in-Some-call_order.ensures c.settle_all-marks.ensures.settled)
+    (λ i h. c.write_bounds.ensures i (omega (arith, few, h))) c.settle_all-marks.ensures.rest (omega arith) (omega (arith, c.scopes.ensures, c.if-trail-scopes.false)) c.if-marks-offset0.false

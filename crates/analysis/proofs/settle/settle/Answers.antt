@@ -10,12 +10,12 @@ use Rattle.analysis.proofs.settle.settle.Goals as goal
 pub bounds-order-place : goal.bounds-order-place
 bounds-order-place g c = let a = few_scopes (g.G.ScopeGraph.graph c.args.graph.now) c.requires.keeps in omega (arith, a, c.requires.within)
 
-pub returns-in-default : goal.returns-in-default
-returns-in-default g c =
+pub returns-in_default : goal.returns-in_default
+returns-in_default g c =
     let G = g.G.ScopeGraph.graph c.args.graph.now in
     let n = get_or c.args.order.now c.args.place 0 in
     let w = scope_there G n (c.requires.ordered.within c.args.place c.requires.within) in
-    absurd (none_some (copied_there G c.requires.keeps n w.0 w.1 _ c.in-default.ensures).1)
+    absurd (none_some (copied_there G c.requires.keeps n w.0 w.1 _ c.in_default.ensures).1)
 
 pub noted-requires : goal.noted-requires
 noted-requires g c = let a = few_scopes (g.G.ScopeGraph.graph c.args.graph.now) c.requires.keeps in let b = c.requires.ordered.within c.args.place c.requires.within in omega (arith, a, b)
@@ -26,15 +26,15 @@ noted-requires-in-NoRun g c = let a = few_scopes (g.G.ScopeGraph.graph c.args.gr
 pub returns-in-Bound : goal.returns-in-Bound
 returns-in-Bound g c =
     let G = g.G.ScopeGraph.graph c.args.graph.now in
-    let r = stepped_bound g.C.Cost.laws G c.requires.keeps c.args.order.now c.requires.ordered c.args.place c.requires.within (scope_of c.in-Some.scope) c.in-Some.ensures (bounds_of c.args.marks.bounds) c.args.trail.now c.write-section.new.trail c.args.marks.solved refl c.requires.wide
-    c.requires.sofar c.requires.lines (bounds_of c.noted.result.bounds) c.noted.result.solved c.write-section.result c.write-section.ensures.fits c.in-Bound.run' c.in-Bound.ensures.0 c.in-Bound.ensures.1 c.write-section.ensures.table c.noted.ensures.bounds c.noted.ensures.solved in
+    let r = stepped_bound g.C.Cost.laws G c.requires.keeps c.args.order.now c.requires.ordered c.args.place c.requires.within (scope_of c.in-Some.scope) c.in-Some.ensures (bounds_of c.args.marks.bounds) c.args.trail.now c.write_section.new.trail c.args.marks.solved refl c.requires.wide
+    c.requires.sofar c.requires.lines (bounds_of c.noted.result.bounds) c.noted.result.solved c.write_section.result c.write_section.ensures.fits c.in-Bound.run' c.in-Bound.ensures.0 c.in-Bound.ensures.1 c.write_section.ensures.table c.noted.ensures.bounds c.noted.ensures.solved in
     record { wide = r.0; sofar = r.1; rest = r.2 }
 
 pub returns-in-NoRun : goal.returns-in-NoRun
 returns-in-NoRun g c =
     let G = g.G.ScopeGraph.graph c.args.graph.now in
-    let r = stepped_none g.C.Cost.laws G c.requires.keeps c.args.order.now c.requires.ordered c.args.place c.requires.within (scope_of c.in-Some.scope) c.in-Some.ensures (bounds_of c.args.marks.bounds) c.args.trail.now c.clear-section.new.trail c.args.marks.solved refl c.requires.wide
-    c.requires.sofar c.requires.lines (bounds_of c.noted-in-NoRun.result.bounds) c.noted-in-NoRun.result.solved c.clear-section.result c.clear-section.ensures.fits c.nothing.result c.nothing.ensures c.in-NoRun.ensures c.clear-section.ensures.table c.noted-in-NoRun.ensures.bounds c.noted-in-NoRun.ensures.solved in
+    let r = stepped_none g.C.Cost.laws G c.requires.keeps c.args.order.now c.requires.ordered c.args.place c.requires.within (scope_of c.in-Some.scope) c.in-Some.ensures (bounds_of c.args.marks.bounds) c.args.trail.now c.clear_section.new.trail c.args.marks.solved refl c.requires.wide
+    c.requires.sofar c.requires.lines (bounds_of c.noted-in-NoRun.result.bounds) c.noted-in-NoRun.result.solved c.clear_section.result c.clear_section.ensures.fits c.nothing.result c.nothing.ensures c.in-NoRun.ensures c.clear_section.ensures.table c.noted-in-NoRun.ensures.bounds c.noted-in-NoRun.ensures.solved in
     record { wide = r.0; sofar = r.1; rest = r.2 }
 
 pub returns-in-Unfit : goal.returns-in-Unfit
