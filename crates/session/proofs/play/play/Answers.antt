@@ -9,13 +9,13 @@ use Rattle.session.proofs.play.play.Goals as goal
 
 pub loop-i-init : goal.loop-i-init
 loop-i-init g c =
-    let m = c.in-ok-answers.ensures in
-    (sequence_none g.C.Cost.measure _ _ _ _ m.items c.in-ok-book.ensures, m.len, m.capacity)
+    let m = c.in_ok-answers.ensures in
+    (sequence_none g.C.Cost.measure _ _ _ _ m.items c.in_ok-book.ensures, m.len, m.capacity)
 
 pub loop-i-preserved : goal.loop-i-preserved
 loop-i-preserved g c =
-    let e = c.push-reserved.ensures in
-    (sequence_next g.C.Cost.measure c.args.calls.now c.loop-i.i _ _ _ _ _ _ _ _ _ _ _ _ c.loop-i-test.true e.items c.loop-i.invariant.0 c.answer-to-answer.ensures, omega (arith, e.len, c.loop-i.invariant.1), omega (arith, e.capacity, c.loop-i.invariant.2))
+    let e = c.push_reserved.ensures in
+    (sequence_next g.C.Cost.measure c.args.calls.now c.loop-i.i _ _ _ _ _ _ _ _ _ _ _ _ c.loop-i-test.true e.items c.loop-i.invariant.0 c.answer_to-answer.ensures, omega (arith, e.len, c.loop-i.invariant.1), omega (arith, e.capacity, c.loop-i.invariant.2))
 
 pub returns : goal.returns
 returns g c =
