@@ -4,7 +4,7 @@ use Rattle.bound_report.proofs.Sections.{shown_more}
 use Rattle.bound_report.proofs.bound_image.shown_passes.Goals as goal
 
 pub loop-scope-preserved : goal.loop-scope-preserved
-loop-scope-preserved c = shown_more c.args.trail.now _ _ c.loop-scope.scope _ c.in-ok-push.ensures.items c.passes-of.ensures c.loop-scope.invariant
+loop-scope-preserved c = shown_more c.args.trail.now _ _ c.loop-scope.scope _ c.in_ok-push.ensures.items c.passes_of.ensures c.loop-scope.invariant
 
 pub returns : goal.returns
 returns c =

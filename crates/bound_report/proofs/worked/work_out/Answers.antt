@@ -4,8 +4,8 @@ use Rattle.bound_report.proofs.worked.work_out.Goals as goal
 
 pub returns : goal.returns
 returns g c =
-    let a = c.in-ok-work.ensures.len in
-    let b = c.in-ok-trail.ensures.len in
-    let d = c.as-mut-slice.ensures.len in
-    let e = c.as-mut-slice-2.ensures.len in
+    let a = c.in_ok-work.ensures.len in
+    let b = c.in_ok-trail.ensures.len in
+    let d = c.as_mut_slice.ensures.len in
+    let e = c.as_mut_slice-2.ensures.len in
     worked_in _ _ _ _ _ _ _ _ _ (omega (arith, a, d)) (omega (arith, b, e)) (c.analyze-answer.auto.trail ∙ e) c.analyze-answer.ensures
