@@ -7,7 +7,7 @@ use session::call::Answer;
 use std::alloc::{AllocError, Global};
 
 fn answer_line<C: CostText + Copy>(heap: Global, answer: Answer<C>) -> Result<String, AllocError>
-    ensures { IfOk result (λ t. string_bytes t ≡ answer_text_lem said answer) }
+    ensures { IfOk result (λ t. string_bytes t ≡ answer_text_lem C.said answer) }
 {
     match answer {
         Answer::Number(number) => format!(in heap; "{number}\n"),
@@ -29,7 +29,7 @@ pub fn answer_lines<C: CostText + Copy>(
     heap: Global,
     answers: &[Answer<C>],
 ) -> Result<String, AllocError>
-    ensures { IfOk result (λ t. string_bytes t ≡ answers_text said answers.now) }
+    ensures { IfOk result (λ t. string_bytes t ≡ answers_text C.said answers.now) }
 {
     let mut text = String::new(heap);
     for i in 0..answers.len() {
