@@ -11,12 +11,7 @@ fn number(bytes: &[u8]) -> u8 {
 }
 
 // What opening says of an image of this length: a scope, some blocks, and then calls to the end.
-fn long(
-    rt: &HostRuntime,
-    stated: u32,
-    len: usize,
-    blocks: usize,
-) -> Result<u8, Fail> {
+fn long(rt: &HostRuntime, stated: u32, len: usize, blocks: usize) -> Result<u8, Fail> {
     let mut bytes = Vec::new(rt.alloc());
     bytes.push(1)?;
     bytes.extend_from_slice(&stated.to_be_bytes())?;
