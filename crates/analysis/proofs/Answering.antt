@@ -1,9 +1,9 @@
 -- What the settled scopes come to.
-use Rattle.std.proofs.Common.{◌≡◌, ℕ, zero, suc, ◌+◌, ◌*◌, ◌<◌, ◌≤◌, Bool, true, false, ◌⊎◌, List, length, get_or, drop, set, Some, None, Ok, Err, Result, sym, refl, ap, ◌∙◌, subst, inl, inr, arith, get_or-set_other, get_or-set_same}
+use Rattle.std.proofs.Common.{◌≡◌, ℕ, ◌+◌, ◌*◌, ◌<◌, ◌≤◌, Bool, true, false, List, length, get_or, drop, set, Some, None, Ok, Err, sym, ◌∙◌, subst, inl, inr, arith, get_or-set_other, get_or-set_same}
 use Rattle.std.specs.List.{slice_get}
 use Rattle.model.specs.declared.refusal.Refusal.TheVariants.{NoScope, NoRun}
 use Rattle.model.specs.declared.trail.Line.{Line}
-use Rattle.model.specs.Analysis.{Solved, Unsolvable, Tabled, Analyzed}
+use Rattle.model.specs.Analysis.{Solved, Tabled, Analyzed}
 use Rattle.model.specs.Analysis.Analyzed.{no_run, bound}
 use Rattle.model.specs.Graph.{Scope}
 use Rattle.model.specs.Measures.{Measure}

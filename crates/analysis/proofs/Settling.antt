@@ -1,15 +1,13 @@
 -- Settling one scope after the other, called scopes first.
-use Rattle.std.proofs.Common.{◌≡◌, ℕ, zero, suc, ◌+◌, ◌<◌, ◌≤◌, Bool, true, false, ◌⊎◌, List, [], ◌∷◌, length, get_or, Some, None, Option, sym, refl, ap, ◌∙◌, subst, inl, inr, ⊎_elim, arith}
+use Rattle.std.proofs.Common.{◌≡◌, ℕ, zero, suc, ◌+◌, ◌<◌, Bool, false, ◌⊎◌, List, length, get_or, Some, sym, refl, ◌∙◌, subst, inl, inr, ⊎_elim, arith}
 use Rattle.std.specs.List.{slice_get}
 use Rattle.std.proofs.lemmas.Option.{slice_get-get_or}
 use Rattle.std.proofs.lemmas.Bool.{cases_eq, cases_lt}
 use Rattle.model.specs.declared.graph.Node.TheVariants.{Call}
 use Rattle.model.specs.declared.trail.Line.{Line}
-use Rattle.model.specs.Analysis.{Solved, Unsolvable}
 use Rattle.model.specs.Best.{IsBest}
 use Rattle.model.specs.Graph.{Scope}
 use Rattle.model.specs.Measures.{Measure, Laws}
-use Rattle.model.specs.Rules.{Calls}
 use Rattle.model.specs.Runs.{Run, IsRun, run_cost}
 use Rattle.model.specs.Runs.Run.{run}
 use Rattle.model.specs.Runs.Passes.{final}

@@ -1,16 +1,15 @@
 -- The scope at place k of the order, worked out and written down, is settled.
-use Rattle.std.proofs.Common.{◌≡◌, ℕ, zero, suc, ◌+◌, ◌*◌, ◌<◌, ◌≤◌, Bool, true, false, cond, leb, ◌⊎◌, List, [], ◌∷◌, ◌++◌, length, get_or, drop, set, replicate, Some, None, Option, sym, refl, ap, ◌∙◌, subst, inl, inr, arith, length-set, get_or-set_other, get_or-set_same}
+use Rattle.std.proofs.Common.{◌≡◌, ℕ, zero, suc, ◌+◌, ◌*◌, ◌<◌, ◌≤◌, Bool, true, false, cond, leb, List, [], ◌∷◌, ◌++◌, length, get_or, drop, set, replicate, Some, None, Option, sym, refl, ap, ◌∙◌, subst, inl, inr, arith, length-set, get_or-set_other, get_or-set_same}
 use lib.ListN.{length-replicate}
 use Rattle.std.specs.List.{slice_get}
 use Rattle.model.specs.declared.graph.Node.TheVariants.{Call}
 use Rattle.model.specs.declared.trail.Line.{Line}
-use Rattle.model.specs.Analysis.{Solved, Unsolvable}
 use Rattle.model.specs.Best.{IsBest}
 use Rattle.model.specs.Graph.{Scope}
 use Rattle.model.specs.Measures.{Measure, Laws}
 use Rattle.model.specs.Rules.{KeepsFrom}
 use Rattle.model.specs.Runs.{Run}
-use Rattle.model.specs.Trail.{Group, section, padded, section_lines, size, line}
+use Rattle.model.specs.Trail.{section, padded, section_lines, size, line}
 use Rattle.model.specs.Ways.{RunCost, AreValues, edge_value_lem}
 use Rattle.model.proofs.Passes.{best_no_run}
 use Rattle.model.proofs.Scopes.{IsPlan, scope_solved}
@@ -22,14 +21,13 @@ use Rattle.search.specs.Ways.{way_edges}
 use Rattle.trail.specs.Groups.{groups_of}
 use Rattle.trail.specs.Sections.{written}
 use Rattle.trail.proofs.Lengths.{length_section}
-use Rattle.trail.proofs.Sections.{SectionPut, section_put}
-use Rattle.bound.specs.declared.outcome.Outcome.{Outcome}
-use Rattle.bound.specs.declared.outcome.Outcome.TheVariants.{Unfit, NoRun, Bound}
+use Rattle.trail.proofs.Sections.{section_put}
+use Rattle.bound.specs.declared.outcome.Outcome.TheVariants.{Unfit}
 use Rattle.bound.specs.declared.outcome.Solution.{Solution}
-use Rattle.bound.specs.Choices.{last_groups, IsPlaced, IsChoice}
+use Rattle.bound.specs.Choices.{last_groups, IsPlaced}
 use Rattle.bound.specs.Solves.{IsRunsBest, IsSolution, Solves}
 use Rattle.bound.proofs.Candidates.{choice_plan}
-use Rattle.analysis.specs.States.{Settled, AreSettled}
+use Rattle.analysis.specs.States.{AreSettled}
 use Rattle.analysis.proofs.Settling.{called_before, chosen, are_best, are_shown, called_best, settled_kept, settled_more}
 
 module _ {C : Type 0} {m : Measure C} (laws : Laws m) (g : List Scope) (kept : KeepsFrom 22 g) (order : List ℕ) (first : CalledFirst g order) (k : ℕ) (within : k < length g)

@@ -1,13 +1,12 @@
 -- A number of passes in a range, and the run that it stands for.
-use Rattle.std.proofs.Common.{◌≡◌, ℕ, zero, suc, ◌+◌, ◌-◌, ◌<◌, ◌≤◌, ◌⊎◌, List, [], ◌∷◌, ◌++◌, Some, None, Option, sym, refl, ap, ◌∙◌, subst, ap₂, inl, inr, ⊎_elim, arith}
+use Rattle.std.proofs.Common.{◌≡◌, ℕ, zero, suc, ◌-◌, ◌<◌, ◌≤◌, List, [], ◌∷◌, ◌++◌, Some, None, Option, sym, refl, ap, ◌∙◌, subst, ap₂, ⊎_elim, arith}
 use Rattle.std.proofs.lemmas.Bool.{cases_lt, lt-ltb, le-ltb}
-use Rattle.model.specs.declared.graph.Target.TheVariants.{Again, Leave}
 use Rattle.model.specs.Graph.{Scope}
 use Rattle.model.specs.Measures.{Measure, Laws}
 use Rattle.model.specs.Best.{joined, power}
 use Rattle.model.specs.Counts.{powers, spread}
 use Rattle.model.specs.Trail.{Group, AreRanges, IsRange, unrolled}
-use Rattle.model.specs.Ways.{IsPassWay, AreFrontWays, way_cost}
+use Rattle.model.specs.Ways.{AreFrontWays}
 use Rattle.model.proofs.Bests.{none_some, some_same, joined_both}
 use Rattle.model.proofs.Ranges.{powers_some}
 use Rattle.model.proofs.Scopes.{IsPlan}

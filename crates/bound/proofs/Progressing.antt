@@ -1,16 +1,15 @@
 -- One range more in the search for the bound of a scope.
-use Rattle.std.proofs.Common.{◌≡◌, ℕ, zero, suc, ◌+◌, ◌-◌, ◌<◌, ◌≤◌, max, Bool, true, false, cond, ltb, List, [], ◌∷◌, ◌++◌, length, take, Some, None, Option, sym, refl, ap, ◌∙◌, subst, ap₂, inl, inr, ⊎_elim, add-one, arith, length-append}
-use Rattle.std.proofs.lemmas.List.{take-append-le, take_all, take_at}
+use Rattle.std.proofs.Common.{◌≡◌, ℕ, zero, suc, ◌+◌, ◌-◌, ◌<◌, ◌≤◌, max, Bool, true, cond, ltb, List, [], ◌∷◌, ◌++◌, length, take, Some, None, Option, sym, refl, ap, ◌∙◌, subst, ap₂, inl, inr, ⊎_elim, add-one, arith, length-append}
+use Rattle.std.proofs.lemmas.List.{take-append-le, take_at}
 use Rattle.std.proofs.lemmas.Bool.{cases_lt, lt-ltb, le-ltb}
-use Rattle.model.specs.declared.graph.Target.TheVariants.{Again, Leave}
 use Rattle.model.specs.Graph.{Scope}
 use Rattle.model.specs.Measures.{Measure, Laws}
-use Rattle.model.specs.Best.{IsBest, joined, better, power}
-use Rattle.model.specs.Counts.{powers, spread, FrontCost, RunsBetween}
+use Rattle.model.specs.Best.{IsBest, joined, better}
+use Rattle.model.specs.Counts.{powers, spread, RunsBetween}
 use Rattle.model.specs.Runs.{Run}
 use Rattle.model.specs.Trail.{Group, SameFacts, AreRanges, IsRange, IsCut, unrolled}
 use Rattle.model.specs.Ways.{RunCost, AreFrontWays}
-use Rattle.model.proofs.Bests.{none_some, some_same, best_one}
+use Rattle.model.proofs.Bests.{none_some, best_one}
 use Rattle.model.proofs.Fronts.{front_none, runs_none, runs_stopped, runs_all}
 use Rattle.model.proofs.Ranges.{powers_some}
 use Rattle.model.proofs.Shown.{ranges_push, fronts_push}
@@ -22,7 +21,6 @@ use Rattle.search.specs.Ways.{way_edges}
 use Rattle.bound.specs.declared.choice.Choice.{Choice}
 use Rattle.bound.specs.Choices.{group, choice_cost, better_choice, IsPlaced, IsChoice}
 use Rattle.bound.specs.Progress.{made_choice, choice_of, range_choice, IsProgress}
-use Rattle.bound.specs.Ranges.{cuts}
 use Rattle.bound.specs.Solves.{Ended, IsRunsBest}
 use Rattle.bound.specs.declared.progress.Progress.{Progress}
 use Rattle.trail.specs.Groups.{groups_of}

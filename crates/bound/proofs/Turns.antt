@@ -1,26 +1,21 @@
 -- One range more of a scope.
-use Rattle.std.proofs.Common.{◌≡◌, ℕ, zero, suc, ◌+◌, ◌-◌, ◌<◌, ◌≤◌, max, Bool, true, false, cond, List, [], ◌∷◌, ◌++◌, Some, None, Option, sym, refl, ap, ◌∙◌, subst, ap₂, arith}
-use Rattle.std.specs.List.{slice_get}
+use Rattle.std.proofs.Common.{◌≡◌, ℕ, zero, suc, ◌-◌, ◌≤◌, max, Bool, true, false, cond, List, Some, None, Option, refl, arith}
 use Rattle.model.specs.declared.graph.Target.TheVariants.{Again, Leave}
 use Rattle.model.specs.Graph.{Scope}
 use Rattle.model.specs.Measures.{Measure, Laws}
-use Rattle.model.specs.Best.{IsBest, joined, better, power}
+use Rattle.model.specs.Best.{IsBest, joined, better}
 use Rattle.model.specs.Counts.{powers, spread, FrontCost, RunsBetween, AreBests}
 use Rattle.model.specs.Runs.{Run}
-use Rattle.model.specs.Trail.{Group, AreRanges, IsRange, unrolled}
-use Rattle.model.specs.Ways.{RunCost, IsPassWay, AreFrontWays, way_cost}
-use Rattle.model.proofs.Bests.{none_some, some_same, joined_both}
+use Rattle.model.specs.Trail.{IsRange}
 use Rattle.model.proofs.Facts.{range_bests}
-use Rattle.model.proofs.Fronts.{front_none, front_next, runs_more, runs_none, runs_stopped, runs_all}
+use Rattle.model.proofs.Fronts.{front_next, runs_more}
 use Rattle.model.proofs.Lifting.{lifted}
-use Rattle.model.proofs.Ranges.{powers_some, joined_none}
 use Rattle.search.specs.declared.ending.Ending.TheVariants.{Again as Repeat, Leave as Exit}
 use Rattle.search.specs.declared.found.Costliest.{Costliest}
 use Rattle.search.specs.Found.{IsCostliest}
 use Rattle.search.specs.Tables.{OnSome}
-use Rattle.search.specs.Ways.{way_edges}
 use Rattle.bound.specs.declared.choice.Choice.{Choice}
-use Rattle.bound.specs.Choices.{choice_cost, better_choice, IsPlaced, IsChoice}
+use Rattle.bound.specs.Choices.{choice_cost, better_choice, IsPlaced}
 
 pub no_copies : {C : Type 0} (m : Measure C) (j : ℕ) → (j ≡ 0 → ⊥) → None ≡ powers m None j
 no_copies m zero h = absurd (h refl)

@@ -1,5 +1,5 @@
 -- How far the search for the bound of a scope has come.
-use Rattle.std.specs.Prelude.{◌≡◌, ℕ, suc, ◌+◌, ◌-◌, ◌<◌, ◌≤◌, max, cond, List, length, take, Some, None, Option, nat_lt}
+use Rattle.std.specs.Prelude.{ℕ, suc, ◌+◌, ◌-◌, ◌<◌, ◌≤◌, max, cond, List, length, take, Some, None, Option, nat_lt}
 use Rattle.model.specs.Best.{IsBest}
 use Rattle.model.specs.Counts.{spread, FrontCost, RunsBetween}
 use Rattle.model.specs.Graph.{Scope}

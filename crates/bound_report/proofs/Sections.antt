@@ -1,12 +1,12 @@
 -- The passes that are read off the sections of a trail.
-use Rattle.std.proofs.Common.{◌≡◌, ℕ, zero, suc, ◌+◌, ◌*◌, ◌<◌, ◌≤◌, List, [], ◌∷◌, ◌++◌, length, get_or, take, drop, Result, sym, refl, ap, ◌∙◌, subst, add-zero, arith, below_more}
+use Rattle.std.proofs.Common.{◌≡◌, ℕ, ◌+◌, ◌*◌, ◌≤◌, List, [], ◌∷◌, ◌++◌, length, get_or, take, drop, Result, sym, ap, ◌∙◌, subst, add-zero, arith, below_more}
 use Rattle.std.proofs.lemmas.List.{get_or-take, get_or-drop, get_or_append_left, get_or_push, length_push, take_all, take-append-le}
 use Rattle.model.specs.declared.refusal.Refusal.{Refusal}
 use Rattle.model.specs.Analysis.{Analyzed}
 use Rattle.model.specs.Graph.{Scope}
 use Rattle.model.specs.Measures.{Measure}
 use Rattle.model.specs.declared.trail.Line.{Line}
-use Rattle.model.specs.Trail.{section, size, line}
+use Rattle.model.specs.Trail.{size, line}
 use Rattle.bound_report.specs.Outcomes.{WorkedOut, passes_shown, ArePassesShown}
 
 -- the first line of a section

@@ -1,11 +1,9 @@
 -- An image by its bytes, and the graph that it means.
-use Rattle.std.proofs.Common.{◌≡◌, ℕ, List, [], ◌∷◌, pos, negsuc, Ok, Err, Result, refl}
+use Rattle.std.proofs.Common.{◌≡◌, ℕ, List, [], ◌∷◌, negsuc, Ok, Err, refl}
 use Rattle.model.specs.declared.graph.Node.TheVariants.{Block, Call}
-use Rattle.model.specs.declared.graph.Target.TheVariants.{To, Again, Leave}
+use Rattle.model.specs.declared.graph.Target.TheVariants.{Leave}
 use Rattle.model.specs.declared.graph.Constraint.TheVariants.{Bar, Must, Pair}
-use Rattle.model.specs.declared.refusal.Refusal.{Refusal}
 use Rattle.model.specs.declared.refusal.Refusal.TheVariants.{UnknownScope}
-use Rattle.model.specs.Graph.{Scope}
 use Rattle.image.specs.Meaning.{opened}
 
 abbrev whole : List ℕ

@@ -1,7 +1,7 @@
 -- One step over the records.
-use Rattle.std.proofs.Common.{◌≡◌, ℕ, zero, suc, pred, ◌+◌, ◌-◌, ◌<◌, ◌≤◌, Bool, true, false, cond, ◌&&◌, eqb, ltb, leb, List, [], ◌∷◌, length, get_or, take, drop, Some, None, Ok, Err, Option, Result, sym, refl, ap, ◌∙◌, subst, ⊎_elim, add-zero, arith}
-use Rattle.std.proofs.lemmas.List.{at_drop_more, at_drop_all, take_rest, drop_more, length-drop, drop-drop, get_or-drop}
-use Rattle.std.proofs.lemmas.Bool.{cases_Bool, and_parts, eqb-true, leb-true}
+use Rattle.std.proofs.Common.{◌≡◌, ℕ, zero, suc, pred, ◌+◌, ◌<◌, ◌≤◌, true, false, ltb, List, [], ◌∷◌, length, get_or, drop, Some, None, Ok, Err, Option, Result, sym, refl, ap, ◌∙◌, subst, ⊎_elim, add-zero, arith}
+use Rattle.std.proofs.lemmas.List.{at_drop_all, drop_more, length-drop, drop-drop, get_or-drop}
+use Rattle.std.proofs.lemmas.Bool.{cases_Bool}
 use Rattle.std.proofs.lemmas.Bool.Decides.{nat_tests}
 use Rattle.model.specs.declared.refusal.Refusal.{Refusal}
 use Rattle.model.specs.declared.refusal.Refusal.TheVariants.{UnknownScope, BadRecord}
@@ -9,8 +9,8 @@ use Rattle.image.specs.declared.record.Kind.{Kind}
 use Rattle.image.specs.declared.record.Kind.TheVariants.{Scope, Block, Call, Edge, Bar, Must, Pair}
 use Rattle.image.specs.declared.record.Record.{Record}
 use Rattle.image.specs.declared.record.Record.TheVariants.{AddScope, AddNode, AddEdge, AddFact}
-use Rattle.image.specs.Layout.{one, size_of, kind_of, fields, of_kind, front_of}
-use Rattle.image.specs.Meaning.{Reading, read, going, placed, more}
+use Rattle.image.specs.Layout.{one, size_of, kind_of, of_kind, front_of}
+use Rattle.image.specs.Meaning.{read, going, placed, more}
 use Rattle.image.specs.Meaning.Reading.{end, fault, next}
 
 pub size_positive : (k : Kind) → 1 ≤ size_of k

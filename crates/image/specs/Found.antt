@@ -2,7 +2,7 @@
 use Rattle.std.specs.Prelude.{◌≡◌, ℕ, List, length, Some, None, Option, refl}
 use Rattle.std.proofs.Common.{sym, ap, ◌∙◌}
 use Rattle.std.specs.List.{slice_get}
-use Rattle.model.specs.Graph.{Scope, passes_at, node_count_lem, edge_count, fact_count_lem, node_at, edge_at, fact_at_lem}
+use Rattle.model.specs.Graph.{passes_at, node_count_lem, edge_count, fact_count_lem, node_at, edge_at, fact_at_lem}
 use Rattle.image.specs.declared.record.Record.{Record}
 use Rattle.image.specs.Meaning.{records, reading, meant}
 use Rattle.image.specs.Parts.{parts, under, passes_in, node_in, edge_in, fact_in, count_of}

@@ -1,21 +1,18 @@
 -- Look-ups in the graph that the records describe.
-use Rattle.std.specs.Prelude.{◌≡◌, ℕ, zero, suc, pred, ◌+◌, ◌<◌, ◌≤◌, Bool, true, false, cond, eqb, ltb, List, [], ◌∷◌, length, drop, Some, None, Ok, Err, Option, Result, refl}
+use Rattle.std.specs.Prelude.{◌≡◌, ℕ, zero, suc, pred, ◌+◌, ◌≤◌, Bool, true, cond, List, [], ◌∷◌, length, drop, Some, None, Ok, Err, Option, Result, refl}
 use Rattle.std.proofs.Common.{sym, ap, subst, ◌∙◌, ⊎_elim, arith, add-zero, zero-add}
-use Rattle.std.proofs.lemmas.Bool.{cases_Bool, cases_lt}
+use Rattle.std.proofs.lemmas.Bool.{cases_Bool}
 use Rattle.std.proofs.lemmas.Bool.Decides.{nat_tests}
-use Rattle.model.specs.declared.graph.Node.{Node}
-use Rattle.model.specs.declared.graph.Edge.{Edge}
-use Rattle.model.specs.declared.graph.Fact.{Fact}
 use Rattle.model.specs.declared.refusal.Refusal.{Refusal}
 use Rattle.model.specs.declared.refusal.Refusal.TheVariants.{UnknownScope}
 use Rattle.std.specs.List.{slice_get}
-use Rattle.model.specs.Graph.{Scope, in_scope, passes_at, node_count_lem, node_at, edge_at, fact_at_lem}
+use Rattle.model.specs.Graph.{Scope, in_scope}
 use Rattle.image.specs.declared.record.Record.{Record}
 use Rattle.image.specs.declared.record.Record.TheVariants.{AddScope, AddNode, AddEdge, AddFact}
 use Rattle.image.specs.Layout.{front_of}
 use Rattle.image.specs.Meaning.{Reading, read, going, placed, more, records, reading}
-use Rattle.image.specs.Parts.{kept, parts, under, passes_in, node_in, edge_in, fact_in}
-use Rattle.image.specs.Meaning.Reading.{end, fault, next}
+use Rattle.image.specs.Parts.{parts, under, passes_in, node_in, edge_in, fact_in}
+use Rattle.image.specs.Meaning.Reading.{fault, next}
 
 -- scope number i
 abbrev pub scope_of : ℕ → ℕ × ℕ → List Record → Scope

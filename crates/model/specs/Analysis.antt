@@ -1,9 +1,8 @@
 -- What working out a graph answers and leaves in the tables.
-use Rattle.std.specs.Prelude.{◌≡◌, ℕ, ◌+◌, ◌*◌, ◌<◌, ◌≤◌, T, ◌⊎◌, List, [], ◌∷◌, ◌++◌, length, get_or, drop, replicate, Some, None, Ok, Err, Option, Result, slice_index_or}
+use Rattle.std.specs.Prelude.{◌≡◌, ℕ, ◌*◌, ◌<◌, ◌≤◌, T, ◌⊎◌, List, length, get_or, drop, replicate, Ok, Err, Result, slice_index_or}
 use Rattle.model.specs.declared.refusal.Refusal.{Refusal}
 use Rattle.model.specs.declared.refusal.Refusal.TheVariants.{ShortWork, ShortTrail, NoRun}
 use Rattle.model.specs.declared.trail.Line.{Line}
-use Rattle.std.specs.List.{slice_get}
 use Rattle.model.specs.Graph.{Scope}
 use Rattle.model.specs.Measures.{Measure}
 use Rattle.model.specs.Runs.{Run, IsRun, IsBound, run_cost}

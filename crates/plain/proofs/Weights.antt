@@ -1,5 +1,5 @@
 -- The weights of edges, in 32 bits and as sums.
-use Rattle.std.proofs.Common.{◌≡◌, ℕ, ◌^◌, ◌<◌, ◌≤◌, min, List, ℤ, pos, negsuc, ◌+ℤ◌, ◌≤ℤ◌, Some, None, Option, refl, ap, ◌∙◌, arith}
+use Rattle.std.proofs.Common.{◌≡◌, ℕ, ◌^◌, ◌<◌, ◌≤◌, min, ℤ, pos, negsuc, ◌+ℤ◌, ◌≤ℤ◌, Some, None, Option, refl, ap, ◌∙◌, arith}
 use Rattle.std.proofs.lemmas.Int.{ints}
 use Rattle.std.specs.List.{slice_get}
 use Rattle.model.specs.declared.graph.Edge.{Edge}
@@ -8,11 +8,10 @@ use Rattle.model.specs.declared.graph.Node.TheVariants.{Block, Call}
 use Rattle.model.specs.Best.{joined}
 use Rattle.model.specs.Graph.{Scope}
 use Rattle.model.specs.Measures.{Measure}
-use Rattle.model.specs.Rules.{KeepsFrom}
-use Rattle.model.specs.Runs.{nonneg, weight}
+use Rattle.model.specs.Runs.{nonneg}
 use Rattle.model.specs.Ways.{value_from_lem, value_of, edge_value_lem}
 use Rattle.rules.proofs.Kept.{time_most, effect_most, block_weight, call_weight}
-use Rattle.plain.specs.Values.{heaviest, capped, AllLight, WeightsStand, KeptWeights}
+use Rattle.plain.specs.Values.{heaviest, capped, AllLight, KeptWeights}
 
 under : (w : ℕ) → w < 2 ^ 32 → min w heaviest ≡ w
 under w h = omega arith

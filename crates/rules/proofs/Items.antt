@@ -1,5 +1,5 @@
 -- The fault of an item is the rule of the smallest number that it breaks.
-use Rattle.std.proofs.Common.{◌≡◌, ℕ, ◌+◌, ◌<◌, ◌≤◌, Bool, true, false, T, leb, ◌⊎◌, List, length, ℤ, pos, negsuc, ◌+ℤ◌, ◌<ℤ◌, Some, None, Decides, Option, sym, refl, ap, subst, inl, inr, arith}
+use Rattle.std.proofs.Common.{◌≡◌, ℕ, ◌<◌, ◌≤◌, Bool, true, false, T, leb, ◌⊎◌, List, length, ℤ, pos, negsuc, ◌+ℤ◌, ◌<ℤ◌, Some, None, Decides, Option, sym, refl, ap, subst, inl, inr, arith}
 use lib.Signed.{lt_z}
 use Rattle.std.specs.List.{slice_get}
 use Rattle.std.proofs.lemmas.Bool.{leb-true, le-leb}

@@ -1,9 +1,8 @@
 -- What a graph that keeps the rules has, item by item. Rule 21, that there is a scope, is not used.
-use Rattle.std.proofs.Common.{◌≡◌, ℕ, ◌+◌, ◌<◌, ◌≤◌, List, length, ℤ, pos, negsuc, ◌+ℤ◌, ◌≤ℤ◌, ◌<ℤ◌, Some, None, Option, sym, refl, subst, inl, inr, arith}
+use Rattle.std.proofs.Common.{◌≡◌, ℕ, ◌<◌, ◌≤◌, List, length, ℤ, pos, negsuc, ◌+ℤ◌, ◌≤ℤ◌, ◌<ℤ◌, Some, None, Option, sym, refl, subst, inl, inr, arith}
 use Rattle.std.specs.List.{slice_get}
 use Rattle.std.proofs.lemmas.Int.{by_lt_z}
 use Rattle.std.proofs.lemmas.Bool.{cases_lt}
-use Rattle.model.specs.declared.graph.Node.{Node}
 use Rattle.model.specs.declared.graph.Node.TheVariants.{Block, Call}
 use Rattle.model.specs.declared.graph.Target.{Target}
 use Rattle.model.specs.declared.graph.Target.TheVariants.{To}
@@ -11,7 +10,6 @@ use Rattle.model.specs.declared.graph.Edge.{Edge}
 use Rattle.model.specs.declared.graph.Constraint.{Constraint}
 use Rattle.model.specs.declared.graph.Constraint.TheVariants.{Bar, Must, Pair}
 use Rattle.model.specs.declared.graph.Fact.{Fact}
-use Rattle.model.specs.declared.refusal.Refusal.{Refusal}
 use Rattle.model.specs.declared.refusal.Refusal.TheVariants.{OverLimit, BadPasses, BadFigure, Missing, NotForward, NegativeWeight, CallRing, BadFact}
 use Rattle.model.specs.Graph.{Scope}
 use Rattle.model.specs.Rules.{TargetMissing, NodeMissing, Backward, SameNode, Ring, Keeps, KeepsFrom}

@@ -4,7 +4,6 @@ use Rattle.std.specs.List.{slice_get}
 use Rattle.std.proofs.lemmas.Bool.{cases_eq, cases_lt}
 use Rattle.model.specs.declared.graph.Target.{Target}
 use Rattle.model.specs.declared.graph.Target.TheVariants.{To, Again, Leave}
-use Rattle.model.specs.declared.graph.Edge.{Edge}
 use Rattle.model.specs.Measures.{Measure}
 use Rattle.model.specs.Best.{IsBest, joined}
 use Rattle.model.proofs.Bests.{none_some, some_same}

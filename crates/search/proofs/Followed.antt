@@ -1,11 +1,11 @@
 -- Following the choices of the table.
-use Rattle.std.proofs.Common.{◌≡◌, ℕ, zero, suc, ◌+◌, ◌-◌, ◌<◌, ◌≤◌, true, false, List, [], ◌∷◌, ◌++◌, length, get_or, is_some, Some, None, Option, sym, refl, ap, ◌∙◌, subst, ap₂, append_assoc, arith, length-append}
+use Rattle.std.proofs.Common.{◌≡◌, ℕ, ◌-◌, ◌<◌, ◌≤◌, true, List, [], ◌∷◌, ◌++◌, length, get_or, is_some, Some, None, Option, sym, refl, ap, ◌∙◌, subst, append_assoc, arith, length-append}
 use Rattle.std.specs.List.{slice_get}
 use Rattle.std.proofs.lemmas.List.{append-nil}
 use Rattle.model.specs.declared.graph.Target.{Target}
 use Rattle.model.specs.declared.graph.Target.TheVariants.{To, Again, Leave}
 use Rattle.model.specs.declared.graph.Edge.{Edge}
-use Rattle.model.proofs.Bests.{none_some, some_same}
+use Rattle.model.proofs.Bests.{some_same}
 use Rattle.search.specs.declared.flow.Flow.{Flow}
 use Rattle.search.specs.Flows.{edges_of}
 use Rattle.search.specs.Ways.{Follows, Guides}

@@ -1,19 +1,19 @@
 -- A way that uses only the edges which a restriction allows is one that meets the restriction, and the other way round.
-use Rattle.std.proofs.Common.{◌≡◌, ℕ, zero, suc, ◌<◌, ◌≤◌, Bool, true, false, not, ◌&&◌, eqb, ltb, ◌⊎◌, List, [], ◌∷◌, ◌++◌, Some, None, Option, sym, refl, ap, ◌∙◌, subst, inl, inr, ⊎_elim, arith}
+use Rattle.std.proofs.Common.{◌≡◌, ℕ, ◌<◌, ◌≤◌, Bool, true, false, not, ◌&&◌, eqb, ltb, ◌⊎◌, List, [], ◌∷◌, ◌++◌, Some, sym, refl, ap, ◌∙◌, subst, inl, inr, ⊎_elim, arith}
 use Rattle.std.specs.List.{slice_get}
-use Rattle.std.proofs.lemmas.Bool.{cases_eq, cases_lt, and_parts, eqb-true, eq-eqb, ne_eqb, ltb-true, ltb-false, lt-ltb, le-ltb, both_ways, cases_Bool}
+use Rattle.std.proofs.lemmas.Bool.{cases_eq, cases_lt, and_parts, eq-eqb, ne_eqb, ltb-false, lt-ltb, le-ltb, both_ways, cases_Bool}
 use Rattle.std.proofs.lemmas.Bool.Decides.{nat_tests}
 use Rattle.model.specs.declared.graph.Target.{Target}
 use Rattle.model.specs.declared.graph.Target.TheVariants.{To, Again, Leave}
 use Rattle.model.specs.declared.graph.Edge.{Edge}
 use Rattle.model.specs.Runs.{Among, reached_at, reached_by, reached, executed}
 use Rattle.model.specs.Ways.{IsWay}
-use Rattle.model.proofs.Bests.{none_some, some_same}
+use Rattle.model.proofs.Bests.{some_same}
 use Rattle.search.specs.declared.restriction.Restriction.{Restriction}
 use Rattle.search.specs.declared.restriction.Restriction.TheVariants.{Free, Avoid, Visit}
 use Rattle.search.specs.declared.ending.Ending.{Ending}
 use Rattle.search.specs.declared.ending.Ending.TheVariants.{Again as Repeat, Leave as Exit}
-use Rattle.search.specs.Restrictions.{Grants, hits, beyond, passes_by_lem, allows}
+use Rattle.search.specs.Restrictions.{Grants, hits, beyond, allows}
 use Rattle.search.specs.Endings.{stop}
 use Rattle.search.specs.Rounds.{Uses}
 use Rattle.search.specs.Walks.{Forward}

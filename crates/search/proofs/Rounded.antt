@@ -1,13 +1,11 @@
 -- A round of the search, and all of them.
-use Rattle.std.proofs.Common.{◌≡◌, ℕ, zero, suc, ◌+◌, ◌^◌, ◌<◌, ◌≤◌, Bool, true, false, cond, ◌⊎◌, List, [], ◌∷◌, length, get_or, is_some, Some, None, Option, sym, refl, ap, ◌∙◌, subst, inl, inr, ⊎_elim, arith}
-use Rattle.std.proofs.lemmas.Bool.{cases_eq, cases_lt, both_ways}
+use Rattle.std.proofs.Common.{◌≡◌, ℕ, ◌+◌, ◌^◌, ◌<◌, ◌≤◌, Bool, true, false, cond, ◌⊎◌, List, [], ◌∷◌, length, get_or, is_some, Some, None, Option, sym, refl, ap, ◌∙◌, subst, inl, inr, ⊎_elim, arith}
+use Rattle.std.proofs.lemmas.Bool.{cases_lt, both_ways}
 use Rattle.model.specs.declared.graph.Target.TheVariants.{To}
-use Rattle.model.specs.declared.graph.Edge.{Edge}
-use Rattle.model.specs.declared.graph.Fact.{Fact}
 use Rattle.model.specs.Measures.{Measure, Laws}
 use Rattle.model.specs.Best.{IsBest, better}
 use Rattle.model.specs.Ways.{IsWay, WayCost}
-use Rattle.model.proofs.Bests.{none_some, some_same, best_same, best_either}
+use Rattle.model.proofs.Bests.{none_some, best_same, best_either}
 use Rattle.search.specs.declared.ending.Ending.{Ending}
 use Rattle.search.specs.declared.flow.Flow.{Flow}
 use Rattle.search.specs.declared.found.Costliest.{Costliest}

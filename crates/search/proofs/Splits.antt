@@ -1,8 +1,6 @@
 -- A pass meets the facts in force exactly if it uses only the edges left in some useful round.
-use Rattle.std.proofs.Common.{◌≡◌, ℕ, zero, suc, ◌+◌, ◌*◌, ◌/◌, ◌%◌, ◌^◌, ◌<◌, ◌≤◌, Bool, true, false, cond, not, ◌&&◌, ◌||◌, eqb, ltb, ◌⊎◌, List, [], ◌∷◌, length, get_or, Some, None, Option, sym, refl, ap, ◌∙◌, subst, ap₂, inl, inr, ⊎_elim, pow-suc, arith}
-use Rattle.std.specs.List.{slice_get}
-use Rattle.std.proofs.lemmas.Bool.{cases_eq, cases_lt, cases_Bool, and_parts, eq-eqb, ne_eqb, lt-ltb, le-ltb}
-use Rattle.std.proofs.lemmas.Bool.Decides.{nat_tests}
+use Rattle.std.proofs.Common.{◌≡◌, ℕ, ◌+◌, ◌*◌, ◌/◌, ◌%◌, ◌^◌, ◌<◌, ◌≤◌, Bool, true, false, cond, not, ◌&&◌, ◌||◌, ltb, ◌⊎◌, List, [], ◌∷◌, length, get_or, Some, Option, sym, refl, ap, ◌∙◌, subst, ap₂, inl, inr, ⊎_elim, pow-suc, arith}
+use Rattle.std.proofs.lemmas.Bool.{cases_eq, cases_lt, and_parts, eq-eqb, ne_eqb, lt-ltb, le-ltb}
 use Rattle.model.specs.declared.graph.Target.{Target}
 use Rattle.model.specs.declared.graph.Target.TheVariants.{To}
 use Rattle.model.specs.declared.graph.Edge.{Edge}
@@ -15,7 +13,7 @@ use Rattle.model.specs.Runs.{Among, Obeys, Meets, executed}
 use Rattle.model.specs.Ways.{IsWay, IsPassWay, way_cost, WayCost}
 use Rattle.model.proofs.Bests.{none_some, some_same, joined_both}
 use Rattle.search.specs.declared.restriction.Restriction.{Restriction}
-use Rattle.search.specs.declared.restriction.Restriction.TheVariants.{Free, Avoid, Visit}
+use Rattle.search.specs.declared.restriction.Restriction.TheVariants.{Free}
 use Rattle.search.specs.declared.ending.Ending.{Ending}
 use Rattle.search.specs.Restrictions.{Grants, allows, asks, restriction_of_lem}
 use Rattle.search.specs.Endings.{stop}

@@ -1,21 +1,21 @@
 -- The best walk on from a node, one edge out of it after the other.
-use Rattle.std.proofs.Common.{◌≡◌, ℕ, zero, suc, ◌+◌, ◌<◌, ◌≤◌, Bool, true, false, cond, ◌⊎◌, List, [], ◌∷◌, Some, None, Option, sym, refl, ap, ◌∙◌, subst, ap₂, inl, inr, ⊎_elim, arith}
+use Rattle.std.proofs.Common.{◌≡◌, ℕ, suc, ◌<◌, ◌≤◌, Bool, true, false, cond, ◌⊎◌, List, [], ◌∷◌, Some, None, Option, sym, refl, ap, ◌∙◌, subst, ap₂, inl, inr, ⊎_elim, arith}
 use Rattle.std.specs.List.{slice_get}
-use Rattle.std.proofs.lemmas.Bool.{cases_Bool, cases_eq, cases_lt}
+use Rattle.std.proofs.lemmas.Bool.{cases_eq, cases_lt}
 use Rattle.model.specs.declared.graph.Target.{Target}
 use Rattle.model.specs.declared.graph.Target.TheVariants.{To, Again, Leave}
 use Rattle.model.specs.declared.graph.Edge.{Edge}
 use Rattle.model.specs.Measures.{Measure, Laws}
 use Rattle.model.specs.Best.{AtMost, IsBest, joined, better}
 use Rattle.model.specs.Ways.{IsWay, way_cost}
-use Rattle.model.proofs.Bests.{none_some, some_same, joined_both, best_same, best_join, best_either, best_only}
+use Rattle.model.proofs.Bests.{some_same, joined_both, best_same, best_join, best_either, best_only}
 use Rattle.model.proofs.Powers.{at_most_same}
 use Rattle.search.specs.declared.ending.Ending.{Ending}
 use Rattle.search.specs.declared.ending.Ending.TheVariants.{Again as Repeat, Leave as Exit}
 use Rattle.search.specs.declared.step.Step.{Step}
 use Rattle.search.specs.Endings.{stop}
 use Rattle.search.specs.Walks.{TailCost}
-use Rattle.search.specs.Tables.{entry, offer, cost_of_lem, costlier, OnSome, IsStep}
+use Rattle.search.specs.Tables.{entry, offer, cost_of_lem, costlier, OnSome}
 
 -- the number of a target, to tell targets apart
 to_same : {a b : ℕ} → To a ≡ To b → a ≡ b

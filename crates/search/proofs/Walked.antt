@@ -13,7 +13,7 @@ use Rattle.search.specs.declared.ending.Ending.TheVariants.{Again as Repeat, Lea
 use Rattle.search.specs.declared.flow.Flow.{Flow}
 use Rattle.search.specs.Endings.{stop}
 use Rattle.search.specs.Flows.{edges_of}
-use Rattle.search.specs.Tables.{kept_by, entry, offer, IsStep, IsEntry}
+use Rattle.search.specs.Tables.{kept_by, entry, offer, IsEntry}
 use Rattle.search.specs.Ways.{Follows, Guides}
 use Rattle.search.proofs.Held.{flow_forward}
 

@@ -1,15 +1,14 @@
 -- What a search gives.
-use Rattle.std.specs.Prelude.{◌≡◌, ℕ, ◌<◌, ◌≤◌, true, cond, List, [], length, Some, None, Option}
-use Rattle.model.specs.declared.graph.Target.TheVariants.{To}
+use Rattle.std.specs.Prelude.{◌≡◌, ℕ, ◌<◌, ◌≤◌, cond, List, [], length, Some, None, Option}
 use Rattle.model.specs.declared.graph.Edge.{Edge}
 use Rattle.model.specs.declared.graph.Fact.{Fact}
 use Rattle.model.specs.Measures.{Measure}
 use Rattle.model.specs.Best.{IsBest}
-use Rattle.model.specs.Ways.{IsWay, IsPassWay, way_cost, WayCost}
+use Rattle.model.specs.Ways.{IsPassWay, way_cost, WayCost}
 use Rattle.search.specs.declared.ending.Ending.{Ending}
 use Rattle.search.specs.declared.found.Costliest.{Costliest}
 use Rattle.search.specs.Endings.{stop}
-use Rattle.search.specs.Rounds.{restrictions, allows_all, Uses, RoundCost}
+use Rattle.search.specs.Rounds.{RoundCost}
 use Rattle.search.specs.Tables.{OnSome}
 use Rattle.search.specs.Ways.{way_edges}
 

@@ -1,5 +1,5 @@
 -- What a fact asks of a pass, by the nodes that the pass executes and by the edges that it may use.
-use Rattle.std.specs.Prelude.{◌≡◌, ℕ, ◌≤◌, Bool, true, false, cond, not, ◌&&◌, ◌||◌, List, [], ◌∷◌, ◌==◌, nat_lt}
+use Rattle.std.specs.Prelude.{ℕ, Bool, true, false, cond, not, ◌&&◌, ◌||◌, List, ◌==◌, nat_lt}
 use Rattle.model.specs.declared.graph.Target.{Target}
 use Rattle.model.specs.declared.graph.Target.TheVariants.{To, Again, Leave}
 use Rattle.model.specs.declared.graph.Edge.{Edge}

@@ -1,12 +1,11 @@
 -- What was tried is what the call is described to answer and to leave.
-use Rattle.std.proofs.Common.{◌≡◌, ℕ, zero, suc, ◌<◌, ◌≤◌, Bool, true, false, cond, ltb, ◌⊎◌, List, [], ◌∷◌, ◌++◌, length, Some, None, Ok, Err, Option, Result, sym, refl, ap, ◌∙◌, subst, inl, inr, arith}
+use Rattle.std.proofs.Common.{◌≡◌, ℕ, zero, suc, ◌<◌, ◌≤◌, Bool, true, false, cond, ltb, List, [], ◌∷◌, length, Some, None, Ok, Err, Option, Result, sym, refl, ap, ◌∙◌, subst, inl, inr, arith}
 use Rattle.std.specs.List.{slice_get}
 use Rattle.std.proofs.lemmas.Bool.Decides.{nat_tests}
-use Rattle.model.specs.declared.graph.Node.{Node}
 use Rattle.model.specs.declared.graph.Node.TheVariants.{Block, Call}
 use Rattle.model.specs.declared.refusal.Refusal.{Refusal}
 use Rattle.model.specs.declared.refusal.Refusal.TheVariants.{TooShort, BadVersion, BadLength, BadRecord, UnknownKind, UnknownScope, NoScope, OverLimit, BadPasses, BadFigure, Missing, NotForward, NegativeWeight, CallRing, BadFact, NotABlock, NoFact, ShortWork, ShortTrail, NoRun}
-use Rattle.model.specs.Changes.{change, all_but_last, figured, with_nodes, with_facts, with_figures}
+use Rattle.model.specs.Changes.{all_but_last, figured, with_nodes, with_facts, with_figures}
 use Rattle.model.specs.Graph.{Scope, in_scope, node_at, fact_count_lem}
 use Rattle.model.specs.Numbers.{number}
 use Rattle.model.specs.Rules.{SomeIn, Absent, Reaches, Breaks, FirstBroken, Keeps, KeepsFrom}
@@ -15,7 +14,7 @@ use Rattle.model.proofs.Bests.{none_some, some_same}
 use Rattle.workbook.specs.declared.change.Change.{Change}
 use Rattle.workbook.specs.declared.edit.Edit.{Edit}
 use Rattle.workbook.specs.declared.edit.Edit.TheVariants.{SetFigures, Strike}
-use Rattle.workbook.specs.Calls.{changed, Nowhere, Own, Meets, FirstMet, number_given, Described, numbered, unnumbered}
+use Rattle.workbook.specs.Calls.{changed, Nowhere, Own, Meets, number_given, Described, numbered, unnumbered}
 use Rattle.workbook.specs.Calls.Described.{nowhere, refused, taken}
 use Rattle.workbook.specs.Steps.{Undoable}
 use Rattle.workbook.specs.Tries.{Tried, UndoableAt, with_number}

@@ -1,5 +1,5 @@
 -- Lists with an element added at the end, taken off, or changed.
-use Rattle.std.proofs.Common.{◌≡◌, ℕ, zero, suc, ◌-◌, ◌<◌, ◌≤◌, List, [], ◌∷◌, ◌++◌, length, take, set, Some, None, Option, sym, refl, ap, ◌∙◌, sub-one, arith}
+use Rattle.std.proofs.Common.{◌≡◌, ℕ, zero, suc, ◌-◌, ◌<◌, ◌≤◌, List, [], ◌∷◌, ◌++◌, length, take, set, Some, sym, refl, ap, ◌∙◌, sub-one, arith}
 use Rattle.std.specs.List.{slice_get}
 use Rattle.model.proofs.Bests.{none_some, some_same}
 use Rattle.model.specs.Changes.{all_but_last, change}

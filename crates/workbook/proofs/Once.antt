@@ -1,10 +1,7 @@
 -- A call is described to answer in one way only.
-use Rattle.std.proofs.Common.{◌≡◌, ℕ, List, Ok, Err, Option, Result, refl, ap}
-use Rattle.model.specs.declared.refusal.Refusal.{Refusal}
-use Rattle.model.specs.Graph.{Scope}
+use Rattle.std.proofs.Common.{Err, refl, ap}
 use Rattle.model.proofs.Numbers.{smallest_one}
-use Rattle.workbook.specs.declared.edit.Edit.{Edit}
-use Rattle.workbook.specs.Calls.{Meets, Described, OneAnswer}
+use Rattle.workbook.specs.Calls.{Meets, OneAnswer}
 use Rattle.workbook.specs.Calls.Described.{nowhere, refused, taken}
 
 pub one_answer : OneAnswer

@@ -1,5 +1,5 @@
 -- The changes of one scope: what each does, and what undoes it.
-use Rattle.std.specs.Prelude.{ℕ, ◌-◌, ◌<◌, List, length, Some, None, Option}
+use Rattle.std.specs.Prelude.{ℕ, ◌-◌, ◌<◌, length, Some, None, Option}
 use Rattle.std.specs.List.{slice_get}
 use Rattle.model.specs.declared.graph.Node.{Node}
 use Rattle.model.specs.declared.graph.Node.TheVariants.{Block, Call}

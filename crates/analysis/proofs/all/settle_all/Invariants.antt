@@ -1,4 +1,4 @@
-use Rattle.std.proofs.Common.{◌≡◌, ◌*◌, ◌≤◌, length, drop}
+use Rattle.std.proofs.Common.{◌≡◌, ◌*◌, length, drop}
 use Rattle.model.specs.Trail.{size}
 use Rattle.plain.specs.Bounds.{bounds_of}
 use Rattle.analysis.specs.States.{AreSettled}

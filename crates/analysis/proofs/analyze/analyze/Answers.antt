@@ -1,7 +1,6 @@
-use Rattle.std.proofs.Common.{◌≡◌, ◌*◌, ◌≤◌, length, sym, refl, ap, ◌∙◌, subst, arith}
+use Rattle.std.proofs.Common.{sym, refl, ◌∙◌, arith}
 use Rattle.model.specs.Analysis.Early.{short_work, broken, short_trail}
 use Rattle.model.specs.Analysis.Analyzed.{refused}
-use Rattle.model.specs.Trail.{size}
 use Rattle.model.proofs.Bests.{none_some}
 use Rattle.plain.specs.Bounds.{bounds_of}
 use Rattle.rules.proofs.Kept.{keeps_from, few_scopes, order_there}

@@ -1,4 +1,4 @@
-use Rattle.std.proofs.Common.{◌≡◌, ◌≤◌, cond, ltb, [], ◌∷◌, ◌++◌, length, take, sym, ap, ◌∙◌, subst, arith, length-take}
+use Rattle.std.proofs.Common.{◌≡◌, ◌≤◌, cond, ltb, [], ◌∷◌, ◌++◌, length, ap, ◌∙◌, subst, arith, length-take}
 use Rattle.search.specs.Ways.{way_edges}
 use Rattle.trail.specs.declared.groups.Groups.{Groups}
 use Rattle.trail.specs.Groups.{groups_of}

@@ -1,4 +1,4 @@
-use Rattle.std.proofs.Common.{◌≡◌, ◌≤◌, length, Some, None, sym, ap, subst, arith, length-take}
+use Rattle.std.proofs.Common.{◌≤◌, length, Some, None, sym, subst, arith, length-take}
 use Rattle.plain.specs.Copies.{scope_of}
 use Rattle.trail.specs.Groups.{groups_of}
 use Rattle.bound.specs.Progress.{IsProgress}

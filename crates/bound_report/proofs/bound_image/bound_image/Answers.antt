@@ -1,4 +1,4 @@
-use Rattle.std.proofs.Common.{◌≡◌, Ok, Err, vec_items, Result, sym, subst, inl, inr, arith}
+use Rattle.std.proofs.Common.{Err, vec_items, Result, subst, inr, arith}
 use Rattle.measures.specs.Meanings.{cycles, stack}
 use Rattle.measures.specs.declared.cycles.Cycles.{Cycles}
 use Rattle.measures.specs.declared.stack.Stack.{Stack}

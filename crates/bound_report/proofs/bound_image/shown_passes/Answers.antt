@@ -1,4 +1,4 @@
-use Rattle.std.proofs.Common.{◌≡◌, ℕ, vec_items, sym, subst, arith}
+use Rattle.std.proofs.Common.{◌≡◌, ℕ, vec_items, subst, arith}
 use Rattle.bound_report.specs.Outcomes.{ArePassesShown}
 use Rattle.bound_report.proofs.Sections.{shown_more}
 use Rattle.bound_report.proofs.bound_image.shown_passes.Goals as goal

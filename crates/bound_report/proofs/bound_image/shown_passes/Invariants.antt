@@ -1,4 +1,4 @@
-use Rattle.std.proofs.Common.{◌≡◌, ◌≤◌, vec_items}
+use Rattle.std.proofs.Common.{vec_items}
 use Rattle.bound_report.specs.Outcomes.{ArePassesShown}
 use Rattle.bound_report.proofs.bound_image.shown_passes.Given as goal
 

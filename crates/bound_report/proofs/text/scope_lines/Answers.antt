@@ -1,4 +1,4 @@
-use Rattle.std.proofs.Common.{◌≡◌, ◌++◌, string_bytes, sym, ap, ◌∙◌, arith}
+use Rattle.std.proofs.Common.{◌++◌, string_bytes, ap, ◌∙◌}
 use Rattle.bound_report.proofs.Lines.{line_more, all_lines}
 use Rattle.bound_report.proofs.text.scope_lines.Goals as goal
 

@@ -1,4 +1,4 @@
-use Rattle.std.proofs.Common.{◌≤◌, length, ◌∙◌, arith}
+use Rattle.std.proofs.Common.{◌∙◌, arith}
 use Rattle.bound_report.proofs.Sections.{worked_in}
 use Rattle.bound_report.proofs.worked.work_out.Goals as goal
 

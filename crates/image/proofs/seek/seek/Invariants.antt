@@ -1,6 +1,6 @@
 use Rattle.std.proofs.Common.{◌≡◌, ◌-◌, ◌≤◌, length}
 use Rattle.std.specs.List.{slice_get}
-use Rattle.image.specs.Meaning.{records, reading, meant}
+use Rattle.image.specs.Meaning.{records, meant}
 use Rattle.image.specs.Parts.{parts}
 use Rattle.image.specs.Steps.{from}
 use Rattle.image.proofs.seek.seek.Given as goal

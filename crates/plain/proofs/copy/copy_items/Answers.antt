@@ -1,4 +1,4 @@
-use Rattle.std.proofs.Common.{◌+◌, List, sym, refl, subst, arith}
+use Rattle.std.proofs.Common.{◌+◌, sym, refl, subst, arith}
 use Rattle.plain.specs.Copies.{Taken}
 use Rattle.plain.proofs.Copying.{taken_more, taken_past}
 use Rattle.plain.proofs.copy.copy_items.Goals as goal

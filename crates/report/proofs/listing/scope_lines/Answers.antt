@@ -1,4 +1,4 @@
-use Rattle.std.proofs.Common.{◌≡◌, ◌++◌, string_bytes, sym, ap, ◌∙◌, arith}
+use Rattle.std.proofs.Common.{◌++◌, string_bytes, sym, ap, ◌∙◌, arith}
 use Rattle.report.specs.Lines.{line_of}
 use Rattle.report.proofs.Lines.{line_more, has_line, all_lines}
 use Rattle.report.proofs.listing.scope_lines.Goals as goal

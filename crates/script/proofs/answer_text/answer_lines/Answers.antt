@@ -1,4 +1,4 @@
-use Rattle.std.proofs.Common.{◌≡◌, ◌++◌, string_bytes, ap, ◌∙◌}
+use Rattle.std.proofs.Common.{◌++◌, string_bytes, ap, ◌∙◌}
 use Rattle.script.specs.Text.{answer_text_lem}
 use Rattle.script.proofs.Lines.{line_more, all_lines}
 use Rattle.script.proofs.answer_text.answer_lines.Goals as goal

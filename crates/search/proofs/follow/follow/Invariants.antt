@@ -1,4 +1,3 @@
-use Rattle.std.proofs.Common.{◌≡◌, ℕ, ◌-◌, ◌<◌, ◌++◌}
 use Rattle.search.specs.Flows.{edges_of}
 use Rattle.search.specs.Ways.{way_edges}
 use Rattle.search.proofs.Followed.{Underway, left_from}

@@ -1,4 +1,4 @@
-use Rattle.std.proofs.Common.{◌≡◌, ℕ, suc, ◌+◌, ◌/◌, ◌%◌, sym, ap, ◌∙◌, arith}
+use Rattle.std.proofs.Common.{◌≡◌, ◌/◌, sym, ap, ◌∙◌, arith}
 use Rattle.model.specs.Best.{power}
 use Rattle.search.proofs.Squares.{even_turn, odd_turn}
 use Rattle.search.proofs.power.power_of.Goals as goal

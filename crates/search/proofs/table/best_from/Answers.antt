@@ -1,4 +1,4 @@
-use Rattle.std.proofs.Common.{◌≡◌, ℕ, suc, ◌<◌, get_or, pos, None, sym, refl, ap, ◌∙◌, subst, arith}
+use Rattle.std.proofs.Common.{◌≡◌, suc, ◌<◌, get_or, pos, None, sym, ap, ◌∙◌, subst, arith}
 use Rattle.model.specs.declared.graph.Target.TheVariants.{To}
 use Rattle.model.specs.declared.graph.Edge.{Edge}
 use Rattle.search.specs.Flows.{edges_of}

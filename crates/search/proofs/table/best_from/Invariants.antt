@@ -1,4 +1,4 @@
-use Rattle.std.proofs.Common.{◌≡◌, ℕ, ◌-◌}
+use Rattle.std.proofs.Common.{◌≡◌, ℕ}
 use Rattle.model.specs.Best.{IsBest}
 use Rattle.search.specs.Flows.{edges_of}
 use Rattle.search.specs.Tables.{cost_of_lem, OnSome, IsStep}

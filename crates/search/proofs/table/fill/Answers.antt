@@ -1,4 +1,4 @@
-use Rattle.std.proofs.Common.{ℕ, ◌-◌, ◌<◌, length, Some, None, arith, length-set}
+use Rattle.std.proofs.Common.{◌-◌, ◌<◌, length, Some, None, arith, length-set}
 use Rattle.search.specs.Walks.{masked}
 use Rattle.search.proofs.Fills.{fill_more, write_none, write_some}
 use Rattle.search.proofs.table.fill.Goals as goal

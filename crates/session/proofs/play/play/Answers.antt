@@ -1,8 +1,7 @@
-use Rattle.std.proofs.Common.{◌≡◌, ◌≤◌, List, [], length, take, vec_items, ap, ◌∙◌, subst, arith}
+use Rattle.std.proofs.Common.{◌≤◌, List, [], length, vec_items, subst, arith}
 use Rattle.std.proofs.lemmas.List.{take_all}
 use Rattle.workbook.specs.Books.{book_graph}
 use Rattle.session.specs.declared.call.Call.{Call}
-use Rattle.session.specs.declared.call.Call.TheVariants.{WorkOut}
 use Rattle.session.specs.Sequences.{Sequence}
 use Rattle.session.proofs.Sequences.{sequence_none, sequence_next}
 use Rattle.session.proofs.play.play.Goals as goal

@@ -1,4 +1,4 @@
-use Rattle.std.proofs.Common.{◌≡◌, ℕ, ◌-◌, take, vec_items, ap, ◌∙◌}
+use Rattle.std.proofs.Common.{ℕ, ◌-◌, take, vec_items, ap, ◌∙◌}
 use Rattle.workbook.proofs.Lists.{all_but_last_take}
 use Rattle.workbook.proofs.item.drop_last.Goals as goal
 

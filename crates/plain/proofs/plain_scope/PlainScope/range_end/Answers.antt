@@ -1,4 +1,4 @@
-use Rattle.std.proofs.Common.{◌+◌, ◌<◌, length, take, sym, ap, ◌∙◌, subst, arith, take_all}
+use Rattle.std.proofs.Common.{◌+◌, ◌<◌, length, take, sym, ◌∙◌, subst, arith, take_all}
 use Rattle.model.specs.Trail.{IsCut}
 use Rattle.model.proofs.Cuts.{cut_none}
 use Rattle.search.specs.Flows.{facts_of}

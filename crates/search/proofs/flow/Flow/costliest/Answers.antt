@@ -1,4 +1,4 @@
-use Rattle.std.proofs.Common.{◌≡◌, ℕ, ◌+◌, ◌^◌, ◌≤◌, length, sym, ap, ◌∙◌, subst, arith, length-take}
+use Rattle.std.proofs.Common.{◌≡◌, ◌+◌, ◌^◌, ◌≤◌, length, sym, ◌∙◌, subst, arith, length-take}
 use Rattle.search.specs.Flows.{facts_of}
 use Rattle.search.proofs.Rounded.{AreRounds, rounds_skip, rounds_more, rounds_all}
 use Rattle.search.proofs.flow.Flow.costliest.Goals as goal

@@ -1,4 +1,4 @@
-use Rattle.std.proofs.Common.{◌≡◌, ◌<◌, length, take, set, ap, ◌∙◌, add-one, arith, length-take, take-suc-set}
+use Rattle.std.proofs.Common.{◌<◌, length, take, set, ap, ◌∙◌, add-one, arith, length-take, take-suc-set}
 use Rattle.search.proofs.way.Way.push.Goals as goal
 
 pub returns : goal.returns

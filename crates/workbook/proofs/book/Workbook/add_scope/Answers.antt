@@ -1,4 +1,4 @@
-use Rattle.std.proofs.Common.{◌≡◌, Some, sym, refl, ap}
+use Rattle.std.proofs.Common.{Some, ap}
 use Rattle.workbook.specs.declared.edit.Edit.TheVariants.{AddScope}
 use Rattle.workbook.specs.Tables.{graph_of}
 use Rattle.workbook.proofs.Describing.{described_added}

@@ -1,4 +1,4 @@
-use Rattle.std.proofs.Common.{◌≡◌, ◌<◌, length, sym, refl, ap, ◌∙◌, arith}
+use Rattle.std.proofs.Common.{◌<◌, length, sym, refl, ◌∙◌, arith}
 use Rattle.workbook.specs.declared.change.Change.TheVariants.{PopFact}
 use Rattle.workbook.specs.declared.edit.Edit.TheVariants.{Strike}
 use Rattle.workbook.specs.Tables.{graph_of}

@@ -1,4 +1,4 @@
-use Rattle.std.proofs.Common.{◌≡◌, List, sym, refl, subst}
+use Rattle.std.proofs.Common.{List, sym, refl, subst}
 use Rattle.std.specs.List.{slice_get}
 use Rattle.model.specs.Changes.{change}
 use Rattle.model.specs.Graph.{Scope}

@@ -1,4 +1,4 @@
-use Rattle.std.proofs.Common.{◌≡◌, ◌<◌, ◌≤◌, length, vec_items, Option, sym, subst, arith}
+use Rattle.std.proofs.Common.{◌<◌, ◌≤◌, length, vec_items, Option, sym, subst, arith}
 use lib.ListN.{length-map}
 use Rattle.model.specs.Graph.{Scope}
 use Rattle.workbook.specs.Sheets.{scope_of}

@@ -1,4 +1,4 @@
-use Rattle.std.proofs.Common.{◌≡◌, ◌<◌, ◌≤◌, length, vec_items, Option, sym, ap, ◌∙◌, arith, rules}
+use Rattle.std.proofs.Common.{◌<◌, ◌≤◌, length, vec_items, Option, sym, ap, ◌∙◌, arith}
 use Rattle.model.specs.Graph.{Scope}
 use Rattle.workbook.specs.Steps.{inverse_at}
 use Rattle.workbook.proofs.Meanings.{nth_map_past, nth_map_at}
