@@ -1,6 +1,6 @@
 -- A bound, or that there is no run, by a test over all runs of a small graph.
 use Rattle.std.proofs.Common.{◌≡◌, Bool, true, false, ◌&&◌, T, List, [], ◌∷◌, length, sym, refl}
-use Rattle.std.specs.List.{AllByRecursion as All}
+use Rattle.std.specs.List.{AllByRecursion}
 use Rattle.std.proofs.lemmas.Bool.{true≢false, and_parts}
 use Rattle.model.specs.Graph.{Scope}
 use Rattle.model.specs.Measures.{Measure, Laws}
@@ -62,7 +62,7 @@ right_by_test g NoRun e =
     let t = and_parts (all_covered g) (none (all_runs g)) e in
     λ r h. none_in (all_runs g) t.1 r ((runs_list g (length g) 0 t.0).complete r h)
 
-all_by_test : (xs : List Example) → each (λ x. right x.graph x.claim) xs ≡ true → All (λ x. Right x.graph x.claim) xs
+all_by_test : (xs : List Example) → each (λ x. right x.graph x.claim) xs ≡ true → AllByRecursion (λ x. Right x.graph x.claim) xs
 all_by_test [] e = tt
 all_by_test (x ∷ xs) e =
     let t = and_parts (right x.graph x.claim) (each (λ y. right y.graph y.claim) xs) e in

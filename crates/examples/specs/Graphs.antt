@@ -1,6 +1,6 @@
 -- The worked graphs, and what is claimed of each.
 use Rattle.std.specs.Prelude.{ℕ, List, [], ◌∷◌, ℤ, pos, neg_ℤ}
-use Rattle.std.specs.List.{AllByRecursion as All}
+use Rattle.std.specs.List.{AllByRecursion}
 use Rattle.model.specs.declared.graph.Node.TheVariants.{Block, Call}
 use Rattle.model.specs.declared.graph.Target.{Target}
 use Rattle.model.specs.declared.graph.Target.TheVariants.{To, Again, Leave}
@@ -114,4 +114,4 @@ Right g (Bounds c k) = IsBound cycles g 0 (that_many c) × IsBound stack g 0 (re
 Right g NoRun = (r : Run) → IsRun g 0 r → ⊥
 
 abbrev pub EveryExample : Type 0
-EveryExample = All (λ x. Right x.graph x.claim) examples
+EveryExample = AllByRecursion (λ x. Right x.graph x.claim) examples
