@@ -7,6 +7,7 @@ use bound_report::sample::SAMPLE;
 use bound_report::text::report_image;
 use std::env;
 use std::io::Read;
+use std::process::ExitCode;
 
 // One byte more than the longest image: more of the input cannot matter.
 const MOST_READ: u64 = 19110;
@@ -40,9 +41,9 @@ fn run(rt: &HostRuntime) -> anyhow::Result<bool> {
     Ok(report.refused)
 }
 
-fn main(rt: HostRuntime) -> anyhow::Result<()> {
+fn main(rt: HostRuntime) -> anyhow::Result<ExitCode> {
     if run(&rt)? {
-        return Err(anyhow!("the image is refused"));
+        return Ok(ExitCode::FAILURE);
     }
-    Ok(())
+    Ok(ExitCode::SUCCESS)
 }
