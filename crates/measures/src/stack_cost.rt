@@ -19,10 +19,8 @@ impl Cost for Stack {
     }
 
     fn join(self, other: Stack) -> Stack {
-        if self.bytes < other.bytes {
-            other
-        } else {
-            self
+        Stack {
+            bytes: self.bytes.max(other.bytes),
         }
     }
 

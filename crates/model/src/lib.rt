@@ -4,6 +4,7 @@
 
 pub mod cost;
 pub mod graph;
+pub mod lists;
 pub mod refusal;
 pub mod scope_graph;
 pub mod trail;

@@ -1,34 +1,37 @@
 // Why a call was refused.
-ghost use Rattle.std.specs.Prelude.{◌≡◌};
-ghost use Rattle.model.specs.Numbers.{number};
+ghost use Rattle.std.specs.Prelude.{◌≡◌, Some};
+ghost use Rattle.model.specs.Numbers.{number, refused_text};
 
-#[derive(Clone, Copy, PartialEq, Eq, Debug)]
+use std::fmt;
+
+// Each has the number that it is known by outside, and refusals are ordered by it.
+#[derive(Clone, Copy, PartialEq, Eq, PartialOrd, Ord, Debug)]
 pub enum Refusal {
     // opening an image
-    TooShort,
-    BadVersion,
-    BadLength,
-    BadRecord,
-    UnknownKind,
-    UnknownScope,
+    TooShort = 11,
+    BadVersion = 12,
+    BadLength = 13,
+    BadRecord = 14,
+    UnknownKind = 15,
+    UnknownScope = 16,
     // the rules of a graph
-    NoScope,
-    OverLimit,
-    BadPasses,
-    BadFigure,
-    Missing,
-    NotForward,
-    NegativeWeight,
-    CallRing,
-    BadFact,
+    NoScope = 21,
+    OverLimit = 22,
+    BadPasses = 23,
+    BadFigure = 24,
+    Missing = 25,
+    NotForward = 26,
+    NegativeWeight = 27,
+    CallRing = 28,
+    BadFact = 29,
     // a workbook's own
-    NotABlock,
-    NoFact,
+    NotABlock = 30,
+    NoFact = 31,
     // the tables of the analysis
-    ShortWork,
-    ShortTrail,
+    ShortWork = 41,
+    ShortTrail = 42,
     // the runs of a graph
-    NoRun,
+    NoRun = 43,
 }
 
 impl Refusal {
@@ -36,27 +39,15 @@ impl Refusal {
     pub fn number(self) -> u8
         ensures { result ≡ number self }
     {
-        match self {
-            Refusal::TooShort => 11,
-            Refusal::BadVersion => 12,
-            Refusal::BadLength => 13,
-            Refusal::BadRecord => 14,
-            Refusal::UnknownKind => 15,
-            Refusal::UnknownScope => 16,
-            Refusal::NoScope => 21,
-            Refusal::OverLimit => 22,
-            Refusal::BadPasses => 23,
-            Refusal::BadFigure => 24,
-            Refusal::Missing => 25,
-            Refusal::NotForward => 26,
-            Refusal::NegativeWeight => 27,
-            Refusal::CallRing => 28,
-            Refusal::BadFact => 29,
-            Refusal::NotABlock => 30,
-            Refusal::NoFact => 31,
-            Refusal::ShortWork => 41,
-            Refusal::ShortTrail => 42,
-            Refusal::NoRun => 43,
-        }
+        self as u8
+    }
+}
+
+impl fmt::Display for Refusal {
+    ghost output = { λ r. Some (refused_text r) };
+
+    fn fmt<W: fmt::Write>(&self, f: &mut fmt::Formatter<W>) -> fmt::Result {
+        let number = self.number();
+        write!(f, "refused {number}")
     }
 }
