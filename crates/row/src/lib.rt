@@ -1,0 +1,4 @@
+// A list of at most N items, in an array: nothing is allocated.
+#![tactic(auto)]
+
+pub mod row;
