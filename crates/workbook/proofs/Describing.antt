@@ -1,5 +1,5 @@
 -- What was tried is what the call is described to answer and to leave.
-use Rattle.std.proofs.Common.{◌≡◌, ℕ, zero, suc, ◌<◌, ◌≤◌, Bool, true, false, cond, ltb, List, [], ◌∷◌, length, Some, None, Ok, Err, Option, Result, sym, refl, ap, ◌∙◌, subst, inl, inr, arith}
+use Rattle.std.proofs.Common.{◌≡◌, ℕ, zero, suc, ◌<◌, ◌≤◌, Bool, true, false, cond, ltb, List, [], ◌∷◌, length, Some, None, Ok, Err, IfSome, Option, Result, sym, refl, ap, ◌∙◌, subst, inl, inr, arith}
 use Rattle.std.specs.List.{slice_get}
 use Rattle.std.proofs.lemmas.Bool.Decides.{nat_tests}
 use Rattle.model.specs.declared.graph.Node.TheVariants.{Block, Call}
@@ -12,12 +12,13 @@ use Rattle.model.specs.Rules.{SomeIn, Absent, Reaches, Breaks, FirstBroken, Keep
 use Rattle.model.specs.Rules.Reaches.{directly, through}
 use Rattle.model.proofs.Bests.{none_some, some_same}
 use Rattle.workbook.specs.declared.change.Change.{Change}
+use Rattle.workbook.specs.declared.change.Step.TheVariants.{In}
 use Rattle.workbook.specs.declared.edit.Edit.{Edit}
 use Rattle.workbook.specs.declared.edit.Edit.TheVariants.{SetFigures, Strike}
 use Rattle.workbook.specs.Calls.{changed, Nowhere, Own, Meets, number_given, Described, numbered, unnumbered}
 use Rattle.workbook.specs.Calls.Described.{nowhere, refused, taken}
-use Rattle.workbook.specs.Steps.{Undoable}
-use Rattle.workbook.specs.Tries.{Tried, UndoableAt, with_number}
+use Rattle.workbook.specs.Steps.{Undoable, UndoableAt, Reversible}
+use Rattle.workbook.specs.Tries.{Tried, Added}
 use Rattle.workbook.proofs.Lists.{change_past, change_same}
 use Rattle.workbook.proofs.Undo.{nth_change, past}
 
@@ -50,6 +51,11 @@ at_below (x ∷ g) (suc s) h = at_below g s (omega arith)
 pub undoable : (g : List Scope) (s : ℕ) (ch : Change) (x : Scope) → slice_get g s ≡ Some x → Undoable ch x → UndoableAt ch (slice_get g s)
 undoable g s ch x e h = subst (UndoableAt ch) (sym e) h
 
+-- a change that can be undone in any scope, where a scope is counted
+pub reversible : {A : Type 0} (g : List Scope) (s : ℕ) (ch : Change) (f : Scope → A) (n : Option A) → n ≡ in_scope (slice_get g s) (λ x. Some (f x)) → ((x : Scope) → Undoable ch x) → IfSome n (λ _. Reversible (In s ch) g)
+reversible g s ch f None e u = tt
+reversible g s ch f (Some a) e u = let w = there g s f a (sym e) in undoable g s ch w.0 w.1 (u w.0)
+
 -- the call's own refusals are then broken rules of the changed graph
 module _ (g : List Scope) (e : Edit) (somewhere : Nowhere g e → ⊥) (own : (x : Refusal) → Own g e x → Breaks (changed g e) x) where
   breaks : (x : Refusal) → Meets g e x → Breaks (changed g e) x
@@ -65,12 +71,9 @@ module _ (g : List Scope) (e : Edit) (somewhere : Nowhere g e → ⊥) (own : (x
       subst (λ (z : List Scope). Described g e (Err x) z) (sym q) (refused somewhere (record { met = inl b.broken; smallest = λ y l m. b.smallest y l (breaks y m) }))
 
   -- an addition that was tried, and a setting
-  pub described_added : (n : ℕ) (tried : Result (Unit {0}) Refusal) (r : Result ℕ Refusal) (h : List Scope) → r ≡ with_number tried n → Some n ≡ number_given g e → Tried g (changed g e) tried h → Described g e (numbered r) h
-  described_added n tried r h a p t = subst (λ (z : Result ℕ Refusal). Described g e (numbered z) h) (sym a) (go tried t)
-    where
-      go : (tried : Result (Unit {0}) Refusal) → Tried g (changed g e) tried h → Described g e (numbered (with_number tried n)) h
-      go (Ok u) (k, q) = described_taken (Some n) h p k q
-      go (Err x) (b, q) = described_refused x h b q
+  pub described_added : (n : ℕ) (r : Result ℕ Refusal) (h : List Scope) → Some n ≡ number_given g e → Added g (changed g e) (Some n) r h → Described g e (numbered r) h
+  described_added n (Ok m) h p ((k, q), i) = described_taken (Some m) h (ap Some i ∙ p) k q
+  described_added n (Err x) h p ((b, q), i) = described_refused x h b q
 
   pub described_set : (tried : Result (Unit {0}) Refusal) (h : List Scope) → None ≡ number_given g e → Tried g (changed g e) tried h → Described g e (unnumbered tried) h
   described_set (Ok u) h p (k, q) = described_taken None h p k q
@@ -78,6 +81,14 @@ module _ (g : List Scope) (e : Edit) (somewhere : Nowhere g e → ⊥) (own : (x
 
 pub described_nowhere : (g : List Scope) (e : Edit) (h : List Scope) → Nowhere g e → h ≡ g → Described g e (Err Missing) h
 described_nowhere g e h w q = subst (λ (z : List Scope). Described g e (Err Missing) z) (sym q) (nowhere w)
+
+-- an addition in a scope that is counted
+pub described_in : (g : List Scope) (s : ℕ) (f : Scope → ℕ) (e : Edit) (n : Option ℕ) (r : Result ℕ Refusal) (h : List Scope) → n ≡ in_scope (slice_get g s) (λ x. Some (f x)) → n ≡ number_given g e →
+    (Absent g s → Nowhere g e) → (Nowhere g e → Absent g s) → ((x : Refusal) → Own g e x → ⊥) → Added g (changed g e) n r h → Described g e (numbered r) h
+described_in g s f e None r h i p within out own (m, q) = subst (λ (z : Result ℕ Refusal). Described g e (numbered z) h) (sym m) (described_nowhere g e h (within (not_there g s f (sym i))) q)
+described_in g s f e (Some n) r h i p within out own a =
+    let w = there g s f n (sym i) in
+    described_added g e (λ z. present g s w.0 w.1 (out z)) (λ x o. absurd (own x o)) n r h p a
 
 -- a graph with a scope that keeps the rules from 22 on keeps them all
 keeps_all : (g : List Scope) → (length g ≡ 0 → ⊥) → KeepsFrom 22 g → Keeps g

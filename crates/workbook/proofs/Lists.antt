@@ -15,9 +15,13 @@ module _ {A : Type 0} where
   taken [] x = refl
   taken (y ∷ ys) x = ap (λ l. x ∷ l) (taken ys y)
 
-  pub all_but_last_take : (xs : List A) → take (length xs - 1) xs ≡ all_but_last xs
+  all_but_last_take : (xs : List A) → take (length xs - 1) xs ≡ all_but_last xs
   all_but_last_take [] = refl
   all_but_last_take (x ∷ xs) = rw sub-one (taken xs x)
+
+  -- what a list is after its last element is popped
+  pub popped : (xs ys : List A) (n : ℕ) → n ≡ length xs → ys ≡ take (n - 1) xs → ys ≡ all_but_last xs
+  popped xs ys n e p = p ∙ ap (λ (m : ℕ). take (m - 1) xs) e ∙ all_but_last_take xs
 
   last_again : (x : A) (xs : List A) (f : A) → slice_get (x ∷ xs) (length xs) ≡ Some f → all_but_last (x ∷ xs) ++ (f ∷ []) ≡ x ∷ xs
   last_again x [] f e = ap (λ y. y ∷ []) (sym (some_same e))

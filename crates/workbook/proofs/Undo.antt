@@ -1,17 +1,19 @@
 -- A step and the step that undoes it.
-use Rattle.std.proofs.Common.{◌≡◌, ℕ, zero, suc, ◌<◌, ◌≤◌, List, [], ◌∷◌, ◌++◌, length, Some, None, Option, sym, refl, ap, ◌∙◌, subst, arith}
+use Rattle.std.proofs.Common.{◌≡◌, ℕ, zero, suc, ◌<◌, ◌≤◌, List, [], ◌∷◌, length, Some, None, Option, sym, refl, ap, ◌∙◌, subst, arith}
 use Rattle.std.specs.List.{slice_get}
+use Rattle.std.proofs.lemmas.List.{length_push}
 use Rattle.model.specs.declared.graph.Node.{Node}
 use Rattle.model.specs.declared.graph.Node.TheVariants.{Block, Call}
 use Rattle.model.proofs.Bests.{none_some, some_same}
-use Rattle.model.specs.Changes.{change, all_but_last, figured, with_nodes, with_edges, with_facts}
+use Rattle.model.specs.Changes.{change, all_but_last, empty_scope, figured, with_nodes, with_edges, with_facts}
 use Rattle.model.specs.Graph.{Scope}
 use Rattle.model.specs.Rules.{KeepsFrom}
-use Rattle.rules.proofs.Kept.{few_nodes, few_edges, few_facts}
+use Rattle.rules.proofs.Kept.{few_scopes, few_nodes, few_edges, few_facts}
 use Rattle.workbook.specs.declared.change.Change.{Change}
 use Rattle.workbook.specs.declared.change.Change.TheVariants.{PushNode, PopNode, PushEdge, PopEdge, PushFact, PopFact, Passes, Figures}
-use Rattle.workbook.specs.Steps.{apply_to, Room, figures_of, back_again, inverse_of, Undoable, RoomAt, inverse_at}
-use Rattle.workbook.specs.Tries.{UndoableAt}
+use Rattle.workbook.specs.declared.change.Step.{Step}
+use Rattle.workbook.specs.declared.change.Step.TheVariants.{Open, Close, In}
+use Rattle.workbook.specs.Steps.{apply_to, Room, figures_of, back_again, inverse_of, Undoable, RoomAt, inverse_at, UndoableAt, stepped, Fits, step_back, Reversible}
 use Rattle.workbook.proofs.Lists.{all_but_last_push, push_last, has_last, change_past, change_back}
 
 pub nth_change : {A : Type 0} (n : ℕ) (f : A → A) (xs : List A) (x : A) → slice_get xs n ≡ Some x → slice_get (change n f xs) n ≡ Some (f x)
@@ -62,7 +64,7 @@ module _ (g : List Scope) (kept : KeepsFrom 22 g) (s : ℕ) (ch : Change) where
       go (Figures n t k) = tt
 
   -- there is room for a step in a graph that keeps the rules
-  pub room_kept : (o : Option Scope) → slice_get g s ≡ o → RoomAt ch o
+  room_kept : (o : Option Scope) → slice_get g s ≡ o → RoomAt ch o
   room_kept None e = tt
   room_kept (Some x) e = room x e
 
@@ -85,19 +87,33 @@ module _ (g : List Scope) (kept : KeepsFrom 22 g) (s : ℕ) (ch : Change) where
       go (Figures n t k) h = tt
 
   -- and for the one that undoes it
-  pub room_undo : (o : Option Scope) → slice_get g s ≡ o → UndoableAt ch o → RoomAt (inverse_at ch o) (slice_get (change s (apply_to ch) g) s)
+  room_undo : (o : Option Scope) → slice_get g s ≡ o → UndoableAt ch o → RoomAt (inverse_at ch o) (slice_get (change s (apply_to ch) g) s)
   room_undo None e h = absurd h
   room_undo (Some x) e h = subst (RoomAt (inverse_of ch x)) (sym (nth_change s (apply_to ch) g x e)) (room_back x e h)
 
 -- a graph in which a step is undone
-pub undone_at : (g : List Scope) (s : ℕ) (ch : Change) (o : Option Scope) → slice_get g s ≡ o → UndoableAt ch o → change s (apply_to (inverse_at ch o)) (change s (apply_to ch) g) ≡ g
+undone_at : (g : List Scope) (s : ℕ) (ch : Change) (o : Option Scope) → slice_get g s ≡ o → UndoableAt ch o → change s (apply_to (inverse_at ch o)) (change s (apply_to ch) g) ≡ g
 undone_at g s ch None e h = absurd h
 undone_at g s ch (Some x) e h = change_back s (apply_to ch) (apply_to (inverse_of ch x)) g x e (undone ch x h)
 
--- the same of three graphs, one after the other
-pub restored : (g h k : List Scope) (s : ℕ) (ch back : Change) → UndoableAt ch (slice_get g s) → back ≡ inverse_at ch (slice_get g s) → h ≡ change s (apply_to ch) g → k ≡ change s (apply_to back) h → k ≡ g
-restored g h k s ch back u i e f = f ∙ ap (λ b. change s (apply_to b) h) i ∙ ap (change s (apply_to (inverse_at ch (slice_get g s)))) e ∙ undone_at g s ch (slice_get g s) refl u
+module _ (g : List Scope) (kept : KeepsFrom 22 g) where
+  -- there is room for a step in a graph that keeps the rules
+  pub fits : (st : Step) → Reversible st g → Fits st g
+  fits (Open l m) r = let h = few_scopes g kept in omega arith
+  fits Close r = absurd r
+  fits (In s ch) r = room_kept g kept s ch (slice_get g s) refl
 
--- a new scope that is taken away again
-pub closed_again : (g h k : List Scope) (x : Scope) → h ≡ g ++ (x ∷ []) → k ≡ all_but_last h → k ≡ g
-closed_again g h k x e f = f ∙ ap all_but_last e ∙ all_but_last_push g x
+  -- and for the one that undoes it
+  pub fits_back : (st : Step) → Reversible st g → Fits (step_back st g) (stepped st g)
+  fits_back (Open l m) r = let e = length_push g (empty_scope l m) in omega arith
+  fits_back Close r = absurd r
+  fits_back (In s ch) r = room_undo g kept s ch (slice_get g s) refl r
+
+  step_undone : (st : Step) → Reversible st g → stepped (step_back st g) (stepped st g) ≡ g
+  step_undone (Open l m) r = all_but_last_push g (empty_scope l m)
+  step_undone Close r = absurd r
+  step_undone (In s ch) r = undone_at g s ch (slice_get g s) refl r
+
+  -- the same of three graphs, one after the other
+  pub restored : (st back : Step) (h k : List Scope) → Reversible st g → back ≡ step_back st g → h ≡ stepped st g → k ≡ stepped back h → k ≡ g
+  restored st back h k r i e f = f ∙ ap (λ b. stepped b h) i ∙ ap (stepped (step_back st g)) e ∙ step_undone st r

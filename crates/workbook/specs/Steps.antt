@@ -1,13 +1,15 @@
--- The changes of one scope: what each does, and what undoes it.
-use Rattle.std.specs.Prelude.{ℕ, ◌-◌, ◌<◌, length, Some, None, Option}
+-- The steps of a workbook: what each does, and what undoes it.
+use Rattle.std.specs.Prelude.{ℕ, ◌-◌, ◌<◌, List, [], ◌∷◌, ◌++◌, length, Some, None, Option}
 use Rattle.std.specs.List.{slice_get}
 use Rattle.model.specs.declared.graph.Node.{Node}
 use Rattle.model.specs.declared.graph.Node.TheVariants.{Block, Call}
 use Rattle.model.specs.declared.graph.Fact.{Fact}
-use Rattle.model.specs.Changes.{all_but_last, with_passes, with_nodes, with_edges, with_facts, with_node, with_edge, with_fact, with_figures}
+use Rattle.model.specs.Changes.{change, all_but_last, empty_scope, with_passes, with_nodes, with_edges, with_facts, with_node, with_edge, with_fact, with_figures}
 use Rattle.model.specs.Graph.{Scope}
 use Rattle.workbook.specs.declared.change.Change.{Change}
 use Rattle.workbook.specs.declared.change.Change.TheVariants.{PushNode, PopNode, PushEdge, PopEdge, PushFact, PopFact, Passes, Figures}
+use Rattle.workbook.specs.declared.change.Step.{Step}
+use Rattle.workbook.specs.declared.change.Step.TheVariants.{Open, Close, In}
 
 abbrev pub apply_to : Change → Scope → Scope
 apply_to (PushNode n) x = with_node n x
@@ -70,3 +72,31 @@ RoomAt ch (Some x) = Room ch x
 abbrev pub inverse_at : Change → Option Scope → Change
 inverse_at ch None = ch
 inverse_at ch (Some x) = inverse_of ch x
+
+abbrev pub UndoableAt : Change → Option Scope → Type 0
+UndoableAt ch None = ⊥
+UndoableAt ch (Some x) = Undoable ch x
+
+-- the graph after a step
+abbrev pub stepped : Step → List Scope → List Scope
+stepped (Open l m) g = g ++ (empty_scope l m ∷ [])
+stepped Close g = all_but_last g
+stepped (In s ch) g = change s (apply_to ch) g
+
+-- there is room for it
+abbrev pub Fits : Step → List Scope → Type 0
+Fits (Open l m) g = length g < 17
+Fits Close g = 0 < length g
+Fits (In s ch) g = RoomAt ch (slice_get g s)
+
+-- what undoes the step of such a graph
+abbrev pub step_back : Step → List Scope → Step
+step_back (Open l m) g = Close
+step_back Close g = Close
+step_back (In s ch) g = In s (inverse_at ch (slice_get g s))
+
+-- the steps that can be undone
+abbrev pub Reversible : Step → List Scope → Type 0
+Reversible (Open l m) g = Unit {0}
+Reversible Close g = ⊥
+Reversible (In s ch) g = UndoableAt ch (slice_get g s)

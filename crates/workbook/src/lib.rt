@@ -4,6 +4,5 @@
 pub mod book;
 mod change;
 pub mod edit;
-mod item;
 mod sheet;
 mod tables;

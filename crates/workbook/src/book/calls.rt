@@ -4,10 +4,9 @@ ghost use Rattle.model.specs.declared.refusal.Refusal.TheVariants.{BadFigure};
 ghost use Rattle.workbook.specs.declared.edit.Edit.TheVariants.{AddScope, AddBlock, AddCall, AddEdge, AddFact, SetPasses, SetFigures, Strike};
 ghost use Rattle.workbook.specs.Books.{book_graph};
 ghost use Rattle.workbook.specs.Calls.{Described, numbered, unnumbered};
-ghost use Rattle.workbook.specs.Tries.{with_number};
 
 use crate::book::Workbook;
-use crate::change::Change;
+use crate::change::{Change, Step};
 use crate::tables::Tables;
 use model::graph::{Edge, Fact, Node};
 use model::refusal::Refusal;
@@ -26,16 +25,6 @@ fn no_block(time: u32, otherwise: Refusal) -> Refusal
     }
 }
 
-// The number given, where a step was kept.
-fn numbered_by(tried: Result<(), Refusal>, number: usize) -> Result<usize, Refusal>
-    ensures { result ≡ with_number tried number }
-{
-    match tried {
-        Ok(()) => Ok(number),
-        Err(refusal) => Err(refusal),
-    }
-}
-
 impl Workbook {
     // A workbook without scopes. All the memory that it will ever need is taken here.
     pub fn new(heap: Global) -> Result<Workbook, AllocError>
@@ -48,49 +37,38 @@ impl Workbook {
     pub fn add_scope(&mut self, least: u16, most: u16) -> Result<usize, Refusal>
         ensures { Described (book_graph self.old) (AddScope least most) (numbered result) (book_graph self.new) }
     {
-        let number = self.tables.scopes();
-        let tried = self.try_scope(least, most);
-        numbered_by(tried, number)
+        let count = self.tables.scopes();
+        self.add(Some(count), Step::Open(least, most))
     }
 
     pub fn add_block(&mut self, scope: usize, time: u32, stack: u16) -> Result<usize, Refusal>
         ensures { Described (book_graph self.old) (AddBlock scope time stack) (numbered result) (book_graph self.new) }
     {
-        let Some(number) = self.tables.nodes(scope) else {
-            return Err(Refusal::Missing);
-        };
-        let tried = self.try_step(scope, Change::PushNode(Node::Block { time, stack }));
-        numbered_by(tried, number)
+        let count = self.tables.nodes(scope);
+        let change = Change::PushNode(Node::Block { time, stack });
+        self.add(count, Step::In(scope, change))
     }
 
     pub fn add_call(&mut self, scope: usize, callee: u8) -> Result<usize, Refusal>
         ensures { Described (book_graph self.old) (AddCall scope callee) (numbered result) (book_graph self.new) }
     {
-        let Some(number) = self.tables.nodes(scope) else {
-            return Err(Refusal::Missing);
-        };
-        let tried = self.try_step(scope, Change::PushNode(Node::Call { scope: callee }));
-        numbered_by(tried, number)
+        let count = self.tables.nodes(scope);
+        let change = Change::PushNode(Node::Call { scope: callee });
+        self.add(count, Step::In(scope, change))
     }
 
     pub fn add_edge(&mut self, scope: usize, edge: Edge) -> Result<usize, Refusal>
         ensures { Described (book_graph self.old) (AddEdge scope edge) (numbered result) (book_graph self.new) }
     {
-        let Some(number) = self.tables.edges(scope) else {
-            return Err(Refusal::Missing);
-        };
-        let tried = self.try_step(scope, Change::PushEdge(edge));
-        numbered_by(tried, number)
+        let count = self.tables.edges(scope);
+        self.add(count, Step::In(scope, Change::PushEdge(edge)))
     }
 
     pub fn add_fact(&mut self, scope: usize, fact: Fact) -> Result<usize, Refusal>
         ensures { Described (book_graph self.old) (AddFact scope fact) (numbered result) (book_graph self.new) }
     {
-        let Some(number) = self.tables.facts(scope) else {
-            return Err(Refusal::Missing);
-        };
-        let tried = self.try_step(scope, Change::PushFact(fact));
-        numbered_by(tried, number)
+        let count = self.tables.facts(scope);
+        self.add(count, Step::In(scope, Change::PushFact(fact)))
     }
 
     pub fn set_passes(&mut self, scope: usize, least: u16, most: u16) -> Result<(), Refusal>
@@ -99,7 +77,7 @@ impl Workbook {
         if scope >= self.tables.scopes() {
             return Err(Refusal::Missing);
         }
-        self.try_step(scope, Change::Passes(least, most))
+        self.try_step(Step::In(scope, Change::Passes(least, most)))
     }
 
     // New figures for one block.
@@ -115,12 +93,12 @@ impl Workbook {
         if scope >= self.tables.scopes() {
             return Err(Refusal::Missing);
         }
-        let Some(old) = self.tables.node(scope, node) else {
-            return Err(no_block(time, Refusal::Missing));
-        };
-        match old {
-            Node::Block { .. } => self.try_step(scope, Change::Figures(node, time, stack)),
-            Node::Call { .. } => Err(no_block(time, Refusal::NotABlock)),
+        match self.tables.node(scope, node) {
+            Some(Node::Block { .. }) => {
+                self.try_step(Step::In(scope, Change::Figures(node, time, stack)))
+            }
+            Some(Node::Call { .. }) => Err(no_block(time, Refusal::NotABlock)),
+            None => Err(no_block(time, Refusal::Missing)),
         }
     }
 
@@ -128,12 +106,10 @@ impl Workbook {
     pub fn strike(&mut self, scope: usize) -> Result<(), Refusal>
         ensures { Described (book_graph self.old) (Strike scope) (unnumbered result) (book_graph self.new) }
     {
-        let Some(facts) = self.tables.facts(scope) else {
-            return Err(Refusal::Missing);
-        };
-        if facts == 0 {
-            return Err(Refusal::NoFact);
+        match self.tables.facts(scope) {
+            None => Err(Refusal::Missing),
+            Some(0) => Err(Refusal::NoFact),
+            Some(_) => self.try_step(Step::In(scope, Change::PopFact)),
         }
-        self.try_step(scope, Change::PopFact)
     }
 }

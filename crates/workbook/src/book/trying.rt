@@ -1,44 +1,34 @@
-// A change of a workbook is tried: it stays where the changed graph keeps the rules, else it is undone.
-ghost use Rattle.std.specs.List.{slice_get};
-ghost use Rattle.std.specs.Prelude.{[], ◌∷◌, ◌++◌};
-ghost use Rattle.model.specs.Changes.{change, empty_scope};
+// A step of a workbook is tried: it stays where the changed graph keeps the rules, else it is undone.
+ghost use Rattle.std.specs.Prelude.{IfSome};
 ghost use Rattle.workbook.specs.Books.{book_graph};
-ghost use Rattle.workbook.specs.Steps.{apply_to};
-ghost use Rattle.workbook.specs.Tries.{Tried, UndoableAt};
+ghost use Rattle.workbook.specs.Steps.{stepped, Reversible};
+ghost use Rattle.workbook.specs.Tries.{Added, Tried};
 
 use crate::book::Workbook;
-use crate::change::Change;
+use crate::change::Step;
 use model::refusal::Refusal;
 use rules::judge::first_broken;
 
 impl Workbook {
-    // A step in one scope.
-    pub(crate) fn try_step(&mut self, scope: usize, step: Change) -> Result<(), Refusal>
-        requires { UndoableAt step (slice_get (book_graph self.old) scope) }
-        ensures { Tried (book_graph self.old) (change scope (apply_to step) (book_graph self.old)) result (book_graph self.new) }
+    pub(crate) fn try_step(&mut self, step: Step) -> Result<(), Refusal>
+        requires { Reversible step (book_graph self.old) }
+        ensures { Tried (book_graph self.old) (stepped step (book_graph self.old)) result (book_graph self.new) }
     {
-        let inverse = self.tables.inverse(scope, step);
-        self.tables.apply(scope, step);
-        match first_broken(&self.tables) {
-            None => Ok(()),
-            Some(refusal) => {
-                self.tables.apply(scope, inverse);
-                Err(refusal)
-            }
+        let inverse = self.tables.inverse(step);
+        self.tables.apply(step);
+        if let Some(refusal) = first_broken(&self.tables) {
+            self.tables.apply(inverse);
+            return Err(refusal);
         }
+        Ok(())
     }
 
-    // A new scope.
-    pub(crate) fn try_scope(&mut self, least: u16, most: u16) -> Result<(), Refusal>
-        ensures { Tried (book_graph self.old) (book_graph self.old ++ (empty_scope least most ∷ [])) result (book_graph self.new) }
+    // An addition. Its number is the count of the list that it goes to, none where there is no such list.
+    pub(crate) fn add(&mut self, count: Option<usize>, step: Step) -> Result<usize, Refusal>
+        requires { IfSome count (λ _. Reversible step (book_graph self.old)) }
+        ensures { Added (book_graph self.old) (stepped step (book_graph self.old)) count result (book_graph self.new) }
     {
-        self.tables.open_scope(least, most);
-        match first_broken(&self.tables) {
-            None => Ok(()),
-            Some(refusal) => {
-                self.tables.close_scope();
-                Err(refusal)
-            }
-        }
+        let number = count.ok_or(Refusal::Missing)?;
+        self.try_step(step).map(|()| number)
     }
 }

@@ -5,7 +5,6 @@ ghost use Rattle.workbook.specs.Sheets.{scope_of};
 ghost use Rattle.workbook.specs.Steps.{figures_of, inverse_of};
 
 use crate::change::Change;
-use crate::item::item_at;
 use crate::sheet::Sheet;
 use model::graph::{Edge, Fact, Node};
 
@@ -37,19 +36,19 @@ impl Sheet {
     pub fn node(&self, n: usize) -> Option<Node>
         ensures { result ≡ slice_get (scope_of self.now).nodes n }
     {
-        item_at(self.nodes.as_slice(), n)
+        self.nodes.get(n).copied()
     }
 
     pub fn edge(&self, n: usize) -> Option<Edge>
         ensures { result ≡ slice_get (scope_of self.now).edges n }
     {
-        item_at(self.edges.as_slice(), n)
+        self.edges.get(n).copied()
     }
 
     pub fn fact(&self, n: usize) -> Option<Fact>
         ensures { result ≡ slice_get (scope_of self.now).facts n }
     {
-        item_at(self.facts.as_slice(), n)
+        self.facts.get(n).copied()
     }
 
     // The figures of a block, and zeros where there is none.

@@ -5,7 +5,6 @@ ghost use Rattle.workbook.specs.Sheets.{scope_of};
 ghost use Rattle.workbook.specs.Steps.{apply_to, Room, inverse_of};
 
 use crate::change::Change;
-use crate::item::drop_last;
 use crate::sheet::Sheet;
 use model::graph::Node;
 use std::alloc::{AllocError, Global};
@@ -41,12 +40,10 @@ impl Sheet {
     fn set_figures(&mut self, n: usize, time: u32, stack: u16)
         ensures { scope_of self.new ≡ with_figures n time stack (scope_of self.old) }
     {
-        if n >= self.nodes.len() {
-            return;
-        }
-        match self.nodes[n] {
-            Node::Block { .. } => self.nodes[n] = Node::Block { time, stack },
-            Node::Call { .. } => {}
+        match self.node(n) {
+            Some(Node::Block { .. }) => self.nodes[n] = Node::Block { time, stack },
+            Some(Node::Call { .. }) => {}
+            None => {}
         }
     }
 
@@ -56,11 +53,17 @@ impl Sheet {
     {
         match change {
             Change::PushNode(node) => self.nodes.push_reserved(node),
-            Change::PopNode => drop_last(&mut self.nodes),
+            Change::PopNode => {
+                self.nodes.pop();
+            }
             Change::PushEdge(edge) => self.edges.push_reserved(edge),
-            Change::PopEdge => drop_last(&mut self.edges),
+            Change::PopEdge => {
+                self.edges.pop();
+            }
             Change::PushFact(fact) => self.facts.push_reserved(fact),
-            Change::PopFact => drop_last(&mut self.facts),
+            Change::PopFact => {
+                self.facts.pop();
+            }
             Change::Passes(least, most) => {
                 self.least = least;
                 self.most = most;

@@ -13,51 +13,30 @@ impl ScopeGraph for Tables {
     }
 
     fn passes(&self, scope: usize) -> Option<(u16, u16)> {
-        if scope >= self.scopes.len() {
-            return None;
-        }
-        Some(self.scopes[scope].passes())
+        self.scopes.get(scope).map(|sheet| sheet.passes())
     }
 
     fn nodes(&self, scope: usize) -> Option<usize> {
-        if scope >= self.scopes.len() {
-            return None;
-        }
-        Some(self.scopes[scope].node_count())
+        self.scopes.get(scope).map(|sheet| sheet.node_count())
     }
 
     fn edges(&self, scope: usize) -> Option<usize> {
-        if scope >= self.scopes.len() {
-            return None;
-        }
-        Some(self.scopes[scope].edge_count())
+        self.scopes.get(scope).map(|sheet| sheet.edge_count())
     }
 
     fn facts(&self, scope: usize) -> Option<usize> {
-        if scope >= self.scopes.len() {
-            return None;
-        }
-        Some(self.scopes[scope].fact_count())
+        self.scopes.get(scope).map(|sheet| sheet.fact_count())
     }
 
     fn node(&self, scope: usize, n: usize) -> Option<Node> {
-        if scope >= self.scopes.len() {
-            return None;
-        }
-        self.scopes[scope].node(n)
+        self.scopes.get(scope)?.node(n)
     }
 
     fn edge(&self, scope: usize, n: usize) -> Option<Edge> {
-        if scope >= self.scopes.len() {
-            return None;
-        }
-        self.scopes[scope].edge(n)
+        self.scopes.get(scope)?.edge(n)
     }
 
     fn fact(&self, scope: usize, n: usize) -> Option<Fact> {
-        if scope >= self.scopes.len() {
-            return None;
-        }
-        self.scopes[scope].fact(n)
+        self.scopes.get(scope)?.fact(n)
     }
 }

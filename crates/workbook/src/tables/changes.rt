@@ -1,12 +1,11 @@
 // Tables that are made and changed.
-ghost use Rattle.std.specs.Prelude.{◌≡◌, ◌<◌, [], ◌∷◌, ◌++◌, length, IfOk, Some};
+ghost use Rattle.std.specs.Prelude.{◌≡◌, ◌<◌, [], length, IfOk};
 ghost use Rattle.std.specs.List.{slice_get};
-ghost use Rattle.model.specs.Changes.{all_but_last, change, empty_scope};
-ghost use Rattle.model.specs.Graph.{Scope};
-ghost use Rattle.workbook.specs.Steps.{apply_to, RoomAt, inverse_at};
+ghost use Rattle.workbook.specs.declared.change.Step.TheVariants.{Open, Close, In};
+ghost use Rattle.workbook.specs.Steps.{RoomAt, stepped, Fits, step_back};
 ghost use Rattle.workbook.specs.Tables.{graph_of};
 
-use crate::change::Change;
+use crate::change::{Change, Step};
 use crate::sheet::Sheet;
 use crate::tables::Tables;
 use std::alloc::{AllocError, Global};
@@ -27,9 +26,9 @@ impl Tables {
     }
 
     // A new scope at the end.
-    pub fn open_scope(&mut self, least: u16, most: u16)
+    fn open(&mut self, least: u16, most: u16)
         requires { length (graph_of self.old) < 17 }
-        ensures { graph_of self.new ≡ graph_of self.old ++ (empty_scope least most ∷ []) }
+        ensures { graph_of self.new ≡ stepped (Open least most) (graph_of self.old) }
     {
         let mut sheet = self.spare.take_last();
         sheet.open(least, most);
@@ -37,30 +36,45 @@ impl Tables {
     }
 
     // The newest scope taken away.
-    pub fn close_scope(&mut self)
+    fn close(&mut self)
         requires { 0 < length (graph_of self.old) }
-        ensures { graph_of self.new ≡ all_but_last (graph_of self.old) }
+        ensures { graph_of self.new ≡ stepped Close (graph_of self.old) }
     {
         let sheet = self.scopes.take_last();
         self.spare.push_reserved(sheet);
     }
 
-    pub fn apply(&mut self, scope: usize, step: Change)
-        requires { RoomAt step (slice_get (graph_of self.old) scope) }
-        ensures { graph_of self.new ≡ change scope (apply_to step) (graph_of self.old) }
+    // One scope changed, where it is there.
+    fn change(&mut self, scope: usize, change: Change)
+        requires { RoomAt change (slice_get (graph_of self.old) scope) }
+        ensures { graph_of self.new ≡ stepped (In scope change) (graph_of self.old) }
     {
-        if scope < self.scopes.len() {
-            self.scopes[scope].apply(step);
+        if let Some(sheet) = self.scopes.get_mut(scope) {
+            sheet.apply(change);
         }
     }
 
-    // The step that undoes another in that scope.
-    pub fn inverse(&self, scope: usize, step: Change) -> Change
-        ensures { result ≡ inverse_at step (slice_get (graph_of self.now) scope) }
+    pub fn apply(&mut self, step: Step)
+        requires { Fits step (graph_of self.old) }
+        ensures { graph_of self.new ≡ stepped step (graph_of self.old) }
     {
-        if scope >= self.scopes.len() {
-            return step;
+        match step {
+            Step::Open(least, most) => self.open(least, most),
+            Step::Close => self.close(),
+            Step::In(scope, change) => self.change(scope, change),
         }
-        self.scopes[scope].inverse(step)
+    }
+
+    // The step that undoes another.
+    pub fn inverse(&self, step: Step) -> Step
+        ensures { result ≡ step_back step (graph_of self.now) }
+    {
+        match step {
+            Step::Open(_, _) | Step::Close => Step::Close,
+            Step::In(scope, change) => match self.scopes.get(scope) {
+                Some(sheet) => Step::In(scope, sheet.inverse(change)),
+                None => step,
+            },
+        }
     }
 }

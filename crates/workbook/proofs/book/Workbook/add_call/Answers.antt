@@ -1,24 +1,15 @@
-use Rattle.std.proofs.Common.{length, sym, refl}
+use Rattle.std.proofs.Common.{length}
 use Rattle.model.specs.declared.graph.Node.TheVariants.{Call}
 use Rattle.workbook.specs.declared.change.Change.TheVariants.{PushNode}
 use Rattle.workbook.specs.declared.edit.Edit.TheVariants.{AddCall}
 use Rattle.workbook.specs.Tables.{graph_of}
-use Rattle.workbook.proofs.Describing.{there, not_there, present, undoable, described_added, described_nowhere}
+use Rattle.workbook.proofs.Describing.{reversible, described_in}
 use Rattle.workbook.proofs.book.Workbook.add_call.Goals as goal
 
-pub returns-in_default : goal.returns-in_default
-returns-in_default c =
-    let g = graph_of c.args.self.now.tables in
-    described_nowhere g (AddCall c.args.scope c.args.callee) g (not_there g c.args.scope (λ x. length x.nodes) (sym c.in_default.ensures)) refl
-
-pub try_step-tried-requires : goal.try_step-tried-requires
-try_step-tried-requires c =
-    let g = graph_of c.args.self.now.tables in
-    let w = there g c.args.scope (λ x. length x.nodes) _ (sym c.in-Some.ensures) in
-    undoable g c.args.scope (PushNode (Call c.args.callee)) w.0 w.1 tt
+pub add-requires : goal.add-requires
+add-requires c = reversible (graph_of c.args.self.now.tables) c.args.scope (PushNode (Call c.args.callee)) (λ x. length x.nodes) _ c.nodes-count.ensures (λ x. tt)
 
 pub returns : goal.returns
 returns c =
-    let g = graph_of c.args.self.now.tables in
-    let w = there g c.args.scope (λ x. length x.nodes) _ (sym c.in-Some.ensures) in
-    described_added g (AddCall c.args.scope c.args.callee) (present g c.args.scope w.0 w.1) (λ x o. absurd o) c.in-Some.number _ _ _ c.numbered_by.ensures c.in-Some.ensures c.try_step-tried.ensures
+    let e = c.nodes-count.ensures in
+    described_in (graph_of c.args.self.now.tables) c.args.scope (λ x. length x.nodes) (AddCall c.args.scope c.args.callee) _ _ _ e e (λ w. w) (λ w. w) (λ x o. o) c.add.ensures

@@ -16,21 +16,21 @@ try_step-requires c =
     let w = at_below g c.args.scope (omega (arith, c.scopes.ensures)) in
     undoable g c.args.scope (Figures c.args.node c.args.time c.args.stack) w.0 w.1 tt
 
-pub returns-in_default : goal.returns-in_default
-returns-in_default c =
+pub returns-in-None : goal.returns-in-None
+returns-in-None c =
     let g = graph_of c.args.self.now.tables in
     let w = at_below g c.args.scope (omega (arith, c.scopes.ensures)) in
-    figures_missing g c.args.self.now.kept c.args.scope w.0 w.1 c.args.node c.args.time c.args.stack (sym c.in_default.ensures) _ c.no_block.ensures g refl
+    figures_missing g c.args.self.now.kept c.args.scope w.0 w.1 c.args.node c.args.time c.args.stack (sym c.in-None.ensures) _ c.no_block-in-None.ensures g refl
 
-pub returns-in-Block : goal.returns-in-Block
-returns-in-Block c =
+pub returns-in-Some-Block : goal.returns-in-Some-Block
+returns-in-Some-Block c =
     let g = graph_of c.args.self.now.tables in
     let w = at_below g c.args.scope (omega (arith, c.scopes.ensures)) in
     described_set g (SetFigures c.args.scope c.args.node c.args.time c.args.stack) (present g c.args.scope w.0 w.1)
-    (block_own g c.args.self.now.kept c.args.scope w.0 w.1 c.args.node c.args.time c.args.stack _ _ (sym c.in-Some.ensures ∙ ap Some c.in-Block.is)) _ _ refl c.try_step.ensures
+    (block_own g c.args.self.now.kept c.args.scope w.0 w.1 c.args.node c.args.time c.args.stack _ _ (sym c.in-Some-Block.ensures ∙ ap Some c.in-Some-Block.field-0-is)) _ _ refl c.try_step.ensures
 
-pub returns-in-Call : goal.returns-in-Call
-returns-in-Call c =
+pub returns-in-Some-Call : goal.returns-in-Some-Call
+returns-in-Some-Call c =
     let g = graph_of c.args.self.now.tables in
     let w = at_below g c.args.scope (omega (arith, c.scopes.ensures)) in
-    figures_call g c.args.self.now.kept c.args.scope w.0 w.1 c.args.node c.args.time c.args.stack _ (sym c.in-Some.ensures ∙ ap Some c.in-Call.is) _ c.no_block-in-Call.ensures g refl
+    figures_call g c.args.self.now.kept c.args.scope w.0 w.1 c.args.node c.args.time c.args.stack _ (sym c.in-Some-Call.ensures ∙ ap Some c.in-Some-Call.field-0-is) _ c.no_block.ensures g refl

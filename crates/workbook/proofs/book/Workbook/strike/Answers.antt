@@ -5,16 +5,16 @@ use Rattle.workbook.specs.Tables.{graph_of}
 use Rattle.workbook.proofs.Describing.{there, not_there, present, undoable, described_set, described_nowhere, strike_none, strike_own}
 use Rattle.workbook.proofs.book.Workbook.strike.Goals as goal
 
-pub returns-in_default : goal.returns-in_default
-returns-in_default c =
+pub returns-in-None : goal.returns-in-None
+returns-in-None c =
     let g = graph_of c.args.self.now.tables in
-    described_nowhere g (Strike c.args.scope) g (not_there g c.args.scope (λ x. length x.facts) (sym c.in_default.ensures)) refl
+    described_nowhere g (Strike c.args.scope) g (not_there g c.args.scope (λ x. length x.facts) (sym c.in-None.ensures)) refl
 
-pub returns-then-facts-eq0 : goal.returns-then-facts-eq0
-returns-then-facts-eq0 c =
+pub returns-in-Some-eq0 : goal.returns-in-Some-eq0
+returns-in-Some-eq0 c =
     let g = graph_of c.args.self.now.tables in
-    let w = there g c.args.scope (λ x. length x.facts) _ (sym c.in-Some.ensures) in
-    strike_none g c.args.self.now.kept c.args.scope w.0 w.1 (w.2 ∙ c.if-facts-eq0.true) g refl
+    let w = there g c.args.scope (λ x. length x.facts) _ (sym c.in-Some-eq0.ensures) in
+    strike_none g c.args.self.now.kept c.args.scope w.0 w.1 (w.2 ∙ c.in-Some-eq0.field-0-test) g refl
 
 pub try_step-requires : goal.try_step-requires
 try_step-requires c =
@@ -23,8 +23,8 @@ try_step-requires c =
     let h : 0 < length w.0.facts = omega (arith, w.2) in
     undoable g c.args.scope PopFact w.0 w.1 h
 
-pub returns : goal.returns
-returns c =
+pub returns-in-Some : goal.returns-in-Some
+returns-in-Some c =
     let g = graph_of c.args.self.now.tables in
     let w = there g c.args.scope (λ x. length x.facts) _ (sym c.in-Some.ensures) in
     let h : 0 < length w.0.facts = omega (arith, w.2) in
