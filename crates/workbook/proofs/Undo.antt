@@ -5,7 +5,7 @@ use Rattle.std.proofs.lemmas.List.{length_push}
 use Rattle.model.specs.declared.graph.Node.{Node}
 use Rattle.model.specs.declared.graph.Node.TheVariants.{Block, Call}
 use Rattle.model.proofs.Bests.{none_some, some_same}
-use Rattle.model.specs.Changes.{change, all_but_last, empty_scope, figured, with_nodes, with_edges, with_facts}
+use Rattle.model.specs.Changes.{change, all_but_last, empty_scope, figured, with_nodes, with_edges, with_facts, with_figures}
 use Rattle.model.specs.Graph.{Scope}
 use Rattle.model.specs.Rules.{KeepsFrom}
 use Rattle.rules.proofs.Kept.{few_scopes, few_nodes, few_edges, few_facts}
@@ -13,7 +13,7 @@ use Rattle.workbook.specs.declared.change.Change.{Change}
 use Rattle.workbook.specs.declared.change.Change.TheVariants.{PushNode, PopNode, PushEdge, PopEdge, PushFact, PopFact, Passes, Figures}
 use Rattle.workbook.specs.declared.change.Step.{Step}
 use Rattle.workbook.specs.declared.change.Step.TheVariants.{Open, Close, In}
-use Rattle.workbook.specs.Steps.{apply_to, Room, figures_of, back_again, inverse_of, Undoable, RoomAt, inverse_at, UndoableAt, stepped, Fits, step_back, Reversible}
+use Rattle.workbook.specs.Steps.{apply_to, Room, figured_back, back_again, inverse_of, Undoable, RoomAt, inverse_at, UndoableAt, stepped, Fits, step_back, Reversible}
 use Rattle.workbook.proofs.Lists.{all_but_last_push, push_last, has_last, change_past, change_back}
 
 pub nth_change : {A : Type 0} (n : ℕ) (f : A → A) (xs : List A) (x : A) → slice_get xs n ≡ Some x → slice_get (change n f xs) n ≡ Some (f x)
@@ -32,10 +32,17 @@ past zero (x ∷ xs) e = absurd (none_some (sym e))
 past (suc n) (x ∷ xs) e = let h = past n xs e in omega arith
 
 -- the old figures again
-refigured : (n t k : ℕ) (ns : List Node) (o : Option Node) → slice_get ns n ≡ o → change n (figured (figures_of o).0 (figures_of o).1) (change n (figured t k) ns) ≡ ns
-refigured n t k ns None e = let h = past n ns e in ap (change n (figured 0 0)) (change_past n (figured t k) ns h) ∙ change_past n (figured 0 0) ns h
-refigured n t k ns (Some (Block a b)) e = change_back n (figured t k) (figured a b) ns (Block a b) e refl
-refigured n t k ns (Some (Call c)) e = change_back n (figured t k) (figured 0 0) ns (Call c) e refl
+refigured : (n t k : ℕ) (x : Scope) (o : Option Node) → slice_get x.nodes n ≡ o → apply_to (figured_back (Figures n t k) n o) (with_figures n t k x) ≡ x
+refigured n t k x None e =
+    let h = change_past n (figured t k) x.nodes (past n x.nodes e) in
+    ap (λ ns. with_nodes ns x) (ap (change n (figured t k)) h ∙ h)
+refigured n t k x (Some (Block a b)) e = ap (λ ns. with_nodes ns x) (change_back n (figured t k) (figured a b) x.nodes (Block a b) e refl)
+refigured n t k x (Some (Call c)) e = ap (λ ns. with_nodes ns x) (change_back n (figured t k) (figured t k) x.nodes (Call c) e refl)
+
+figures_room : (n t k : ℕ) (x : Scope) (o : Option Node) → Room (figured_back (Figures n t k) n o) x
+figures_room n t k x None = tt
+figures_room n t k x (Some (Block a b)) = tt
+figures_room n t k x (Some (Call c)) = tt
 
 pub undone : (ch : Change) (x : Scope) → Undoable ch x → apply_to (inverse_of ch x) (apply_to ch x) ≡ x
 undone (PushNode n) x h = ap (λ ns. with_nodes ns x) (all_but_last_push x.nodes n)
@@ -47,7 +54,7 @@ undone PopFact x h =
     let w = has_last x.facts h in
     ap (λ o. apply_to (back_again o) (with_facts (all_but_last x.facts) x)) w.1 ∙ ap (λ fs. with_facts fs x) (push_last x.facts w.0 w.1)
 undone (Passes l m) x h = refl
-undone (Figures n t k) x h = ap (λ ns. with_nodes ns x) (refigured n t k x.nodes (slice_get x.nodes n) refl)
+undone (Figures n t k) x h = refigured n t k x (slice_get x.nodes n) refl
 
 module _ (g : List Scope) (kept : KeepsFrom 22 g) (s : ℕ) (ch : Change) where
   room : (x : Scope) → slice_get g s ≡ Some x → Room ch x
@@ -84,7 +91,7 @@ module _ (g : List Scope) (kept : KeepsFrom 22 g) (s : ℕ) (ch : Change) where
           let c : length (all_but_last x.facts) < 5 = omega arith in
           subst (λ o. Room (back_again o) (with_facts (all_but_last x.facts) x)) (sym w.1) c
       go (Passes l m) h = tt
-      go (Figures n t k) h = tt
+      go (Figures n t k) h = figures_room n t k (with_figures n t k x) (slice_get x.nodes n)
 
   -- and for the one that undoes it
   room_undo : (o : Option Scope) → slice_get g s ≡ o → UndoableAt ch o → RoomAt (inverse_at ch o) (slice_get (change s (apply_to ch) g) s)

@@ -32,11 +32,11 @@ Room PopFact x = Unit {0}
 Room (Passes l m) x = Unit {0}
 Room (Figures n t k) x = Unit {0}
 
--- the figures of a block, and zeros where there is none
-abbrev pub figures_of : Option Node → ℕ × ℕ
-figures_of None = (0, 0)
-figures_of (Some (Block t k)) = (t, k)
-figures_of (Some (Call s)) = (0, 0)
+-- the figures that a block had; a change of what is no block undoes itself
+abbrev pub figured_back : Change → ℕ → Option Node → Change
+figured_back ch n None = ch
+figured_back ch n (Some (Block t k)) = Figures n t k
+figured_back ch n (Some (Call s)) = ch
 
 abbrev pub back_again : Option Fact → Change
 back_again None = PopFact
@@ -51,7 +51,7 @@ inverse_of PopEdge x = PopEdge
 inverse_of (PushFact f) x = PopFact
 inverse_of PopFact x = back_again (slice_get x.facts (length x.facts - 1))
 inverse_of (Passes l m) x = Passes x.least x.most
-inverse_of (Figures n t k) x = Figures n (figures_of (slice_get x.nodes n)).0 (figures_of (slice_get x.nodes n)).1
+inverse_of (Figures n t k) x = figured_back (Figures n t k) n (slice_get x.nodes n)
 
 -- the changes that can be undone
 abbrev pub Undoable : Change → Scope → Type 0

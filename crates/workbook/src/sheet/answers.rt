@@ -2,7 +2,7 @@
 ghost use Rattle.std.specs.Prelude.{◌≡◌, length};
 ghost use Rattle.std.specs.List.{slice_get};
 ghost use Rattle.workbook.specs.Sheets.{scope_of};
-ghost use Rattle.workbook.specs.Steps.{figures_of, inverse_of};
+ghost use Rattle.workbook.specs.Steps.{inverse_of};
 
 use crate::change::Change;
 use crate::sheet::Sheet;
@@ -51,16 +51,6 @@ impl Sheet {
         self.facts.get(n).copied()
     }
 
-    // The figures of a block, and zeros where there is none.
-    fn figures(&self, n: usize) -> (u32, u16)
-        ensures { result ≡ figures_of (slice_get (scope_of self.now).nodes n) }
-    {
-        match self.node(n) {
-            Some(Node::Block { time, stack }) => (time, stack),
-            _ => (0, 0),
-        }
-    }
-
     // The change that undoes another, but for those that only undo.
     pub fn inverse(&self, change: Change) -> Change
         ensures { result ≡ inverse_of change (scope_of self.now) }
@@ -70,12 +60,13 @@ impl Sheet {
             Change::PushEdge(_) => Change::PopEdge,
             Change::PushFact(_) => Change::PopFact,
             Change::Passes(_, _) => Change::Passes(self.least, self.most),
-            Change::Figures(n, _, _) => {
-                let (time, stack) = self.figures(n);
-                Change::Figures(n, time, stack)
-            }
-            Change::PopFact => match self.fact(self.facts.len().saturating_sub(1)) {
-                Some(fact) => Change::PushFact(fact),
+            Change::Figures(n, _, _) => match self.node(n) {
+                Some(Node::Block { time, stack }) => Change::Figures(n, time, stack),
+                Some(Node::Call { .. }) => change,
+                None => change,
+            },
+            Change::PopFact => match self.facts.last() {
+                Some(fact) => Change::PushFact(*fact),
                 None => change,
             },
             Change::PopNode | Change::PopEdge => change,
