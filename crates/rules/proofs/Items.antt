@@ -18,7 +18,7 @@ use Rattle.model.specs.Graph.{Scope}
 use Rattle.model.specs.Numbers.{number}
 use Rattle.model.specs.Rules.{PassesWrong, TimeOver, EffectOver, CalledMissing, TargetMissing, EndMissing, NodeMissing, Backward, Negative, WeightBelow, SameNode, FactWrong}
 use Rattle.rules.specs.Faults.{passes_fault_lem, node_fault_lem, effect_over_lem, leads_beyond_lem, leads_back_lem, weight_below_lem, edge_fault_lem, names_beyond_lem, names_twice_lem, fact_fault_lem}
-use Rattle.rules.proofs.Lowest.{Least, least_if, least_else, least_like}
+use Rattle.rules.proofs.Least.{Least, least_if, least_else, least_like}
 
 decides_leb : (a b : ℕ) → Decides (leb a b) (a ≤ b)
 decides_leb a b = (leb-true a b, le-leb a b)

@@ -9,7 +9,7 @@ use Rattle.model.specs.Numbers.{number}
 use Rattle.model.specs.Rules.{SomeIn, TooMany, Ring, Breaks, Judged}
 use Rattle.rules.specs.Faults.{lower, found, lowest, node_fault_lem, edge_fault_lem, fact_fault_lem, scope_fault, scope_finding_lem, too_many, over, WithinLimits}
 use Rattle.rules.proofs.Items.{PassesBreak, NodeBreaks, EdgeBreaks, FactBreaks, least_passes, least_node, least_edge, least_fact}
-use Rattle.rules.proofs.Lowest.{Least, least_like, least_join, least_lowest, least_found}
+use Rattle.rules.proofs.Least.{Least, least_like, least_join, least_lowest, least_found}
 use Rattle.rules.proofs.Rows.{nth_below}
 
 -- what a scope breaks

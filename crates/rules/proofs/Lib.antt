@@ -1,7 +1,9 @@
+mod ByNumber
 mod Items
 mod Judging
 pub mod Kept
-mod Lowest
+mod Least
+mod Places
 mod Placing
 mod Rings
 mod Rows

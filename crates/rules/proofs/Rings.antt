@@ -1,12 +1,13 @@
 -- Scopes that reach themselves.
-use Rattle.std.proofs.Common.{◌≡◌, ℕ, zero, suc, ◌<◌, Bool, true, false, List, length, get_or, Some, None, Option, sym, refl, ap, ◌∙◌, subst, inl, inr, arith}
+use Rattle.std.proofs.Common.{◌≡◌, ℕ, zero, suc, ◌<◌, ◌≤◌, Bool, true, false, not, MatchBool, List, length, get_or, Some, None, Option, sym, refl, ap, ◌∙◌, subst, inl, inr, arith}
 use Rattle.std.specs.List.{slice_get}
-use Rattle.std.proofs.lemmas.Bool.{cases_eq, cases_Bool}
+use Rattle.std.specs.Option.{is_some}
+use Rattle.std.proofs.lemmas.Bool.{cases_eq, cases_Bool, both_ways}
 use Rattle.model.specs.declared.graph.Node.{Node}
 use Rattle.model.specs.declared.graph.Node.TheVariants.{Call}
 use Rattle.model.specs.Graph.{Scope, in_scope}
 use Rattle.model.specs.Rules.{Calls, Reaches, directly, through, Ring}
-use Rattle.rules.specs.CallOrders.{CalledFirst}
+use Rattle.rules.specs.CallOrders.{CalledFirst, Ordered}
 use Rattle.rules.proofs.Rows.{nth_below}
 
 -- Among the numbers below n that are in U, each leads to another one that is: so some number leads to itself.
@@ -63,3 +64,10 @@ no_ring g order o (i, r) =
     let w = earlier g order o i i p.0 r h p.1 p.2 in
     let e = o.once w.0 p.0 (omega (arith, w.1, p.1)) p.1 (w.2 ∙ sym p.2) in
     omega (arith, e, w.1)
+
+-- a small graph has an order or a ring
+pub ring_where_none : (g : List Scope) (r : Option (List ℕ)) (b : Bool) → length g ≤ 16 → Ordered g r → is_some r ≡ not b → MatchBool b (Ring g) (Ring g → ⊥)
+ring_where_none g None true small o e = elim o [ inl p ↦ absurd (omega arith) | inr p ↦ p ]
+ring_where_none g (Some order) false small o e = no_ring g order o
+ring_where_none g None false small o e = absurd (both_ways _ refl e)
+ring_where_none g (Some order) true small o e = absurd (both_ways _ e refl)

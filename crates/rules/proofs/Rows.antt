@@ -1,6 +1,9 @@
 -- Which scopes the nodes of a scope call, node by node.
 use Rattle.std.proofs.Common.{◌≡◌, ℕ, zero, suc, ◌+◌, ◌<◌, ◌≤◌, Bool, true, false, List, [], ◌∷◌, length, get_or, set, replicate, Some, None, Option, unwrap_or, sym, ap, ◌∙◌, subst, inl, inr, arith, get_or-set_other, get_or-set_same}
+use Rattle.std.specs.Array.{IsFromFnResultFrom}
+use Rattle.std.specs.Fn.{Called}
 use Rattle.std.specs.List.{slice_get}
+use denote.Param.Members.{Mut}
 use Rattle.std.proofs.lemmas.List.{get_or-replicate}
 use Rattle.std.proofs.lemmas.Bool.{cases_eq}
 use Rattle.model.specs.declared.graph.Node.{Node}
@@ -73,4 +76,14 @@ filled_more {A} P xs n x d l h p k b =
     elim (cases_eq k n) [
       | inl e ↦ let Q : ℕ → Type 0 = λ z. P z (get_or (set xs n x) z d) in let R : A → Type 0 = P n in subst Q (sym e) (subst R (sym (get_or-set_same xs n x d l)) p)
       | inr q ↦ let R : A → Type 0 = P k in subst R (sym (get_or-set_other xs n k x d q)) (h k (omega arith))
+    ]
+
+-- an array that a closure made, which its calls leave as it was
+pub made_each : {F B : Type 0} (g : Mut F (ℕ × Unit {0}) B) (P : ℕ → B → Type 0) (f : F) (ys : List B) (d : B) → ((k : ℕ) (y : B) (q : F) → Called g f (k, tt) y q → (q ≡ f) × P k y) → (i n : ℕ) → IsFromFnResultFrom g f ys i n → (k : ℕ) → i ≤ k → k < i + n → P k (get_or ys k d)
+made_each g P f ys d call i zero h k low high = absurd (omega arith)
+made_each {F} {B} g P f ys d call i (suc n) (q, y, at, c, rest) k low high =
+    let w = call i y q c in
+    elim (cases_eq k i) [
+      | inl e ↦ let R : ℕ → Type 0 = λ z. P z (get_or ys z d) in let Q : B → Type 0 = P i in subst R (sym e) (subst Q (sym (at.1 d)) w.1)
+      | inr e ↦ let T : F → Type 0 = λ z. IsFromFnResultFrom g z ys (i + 1) n in made_each g P f ys d call (i + 1) n (subst T w.0 rest) k (omega arith) (omega arith)
     ]

@@ -6,18 +6,19 @@ ghost use Rattle.rules.specs.CallOrders.{callee_of, Row, Ready, Blocked};
 use crate::limits::SCOPES;
 use model::graph::Node;
 use model::scope_graph::ScopeGraph;
+use std::array;
 
 // The scope that a node calls, if any.
 fn callee<G: ScopeGraph>(graph: &G, scope: usize, n: usize) -> Option<usize>
     ensures { result ≡ callee_of (node_at (G.ScopeGraph.graph graph.now) scope n) }
 {
     match graph.node(scope, n) {
-        Some(Node::Call { scope: callee }) => Some(callee as usize),
+        Some(Node::Call { scope: callee }) => Some(usize::from(callee)),
         _ => None,
     }
 }
 
-// The scopes that a scope calls.
+// The scopes that a scope calls. Tried: a fold with a closure that marks the row is no plainer.
 fn calls_of<G: ScopeGraph>(graph: &G, scope: usize) -> [bool; SCOPES]
     ensures { Row (G.ScopeGraph.graph graph.now) scope result }
 {
@@ -33,27 +34,23 @@ fn calls_of<G: ScopeGraph>(graph: &G, scope: usize) -> [bool; SCOPES]
     called
 }
 
-// The same for every scope of a graph.
-pub fn call_table<G: ScopeGraph>(graph: &G, scopes: usize) -> [[bool; SCOPES]; SCOPES]
-    requires { scopes ≤ 16 }
-    ensures { (s : ℕ) → s < scopes → Row (G.ScopeGraph.graph graph.now) s (slice_index_or result s []) }
+// The same for each of the 16 scopes that there may be.
+pub fn call_table<G: ScopeGraph>(graph: &G) -> [[bool; SCOPES]; SCOPES]
+    ensures { (s : ℕ) → s < 16 → Row (G.ScopeGraph.graph graph.now) s (slice_index_or result s []) }
 {
-    let mut table = [[false; SCOPES]; SCOPES];
-    for scope in 0..scopes {
-        table[scope] = calls_of(graph, scope);
-    }
-    table
+    array::from_fn(
+        |scope| -> [bool; SCOPES]
+            ensures { Row (G.ScopeGraph.graph graph.entry.now) scope result }
+        { calls_of(graph, scope) },
+    )
 }
 
 // Is every called scope placed already?
 pub fn ready(row: &[bool; SCOPES], placed: &[bool; SCOPES], scopes: usize) -> bool
-    requires { scopes ≤ 16 }
     ensures { MatchBool result (Ready row.now placed.now scopes) (Blocked row.now placed.now scopes) }
 {
-    for t in 0..scopes {
-        if row[t] && !placed[t] {
-            return false;
-        }
-    }
-    true
+    row.iter()
+        .zip(placed)
+        .take(scopes)
+        .all(|(called, is_placed)| !*called || *is_placed)
 }

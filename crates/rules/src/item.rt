@@ -1,28 +1,10 @@
 // What is wrong with one item of a graph: the broken rule of the smallest number, if any.
 ghost use Rattle.std.specs.Prelude.{◌≡◌};
-ghost use Rattle.rules.specs.Faults.{lesser, lower, passes_fault_lem, node_fault_lem, effect_over_lem, leads_beyond_lem, leads_back_lem, weight_below_lem, edge_fault_lem, names_beyond_lem, names_twice_lem, fact_fault_lem};
+ghost use Rattle.rules.specs.Faults.{passes_fault_lem, node_fault_lem, effect_over_lem, leads_beyond_lem, leads_back_lem, weight_below_lem, edge_fault_lem, names_beyond_lem, names_twice_lem, fact_fault_lem};
 
 use crate::limits::{LARGEST, LONGEST};
 use model::graph::{Constraint, Edge, Fact, Node, Target};
 use model::refusal::Refusal;
-
-// Of two refusals the one of the smaller number.
-fn lesser(x: Refusal, y: Refusal) -> Refusal
-    ensures { result ≡ lesser x y }
-{
-    if y.number() < x.number() { y } else { x }
-}
-
-// The same of two findings, either of which may be none.
-pub fn lower(a: Option<Refusal>, b: Option<Refusal>) -> Option<Refusal>
-    ensures { result ≡ lower a b }
-{
-    match (a, b) {
-        (Some(x), Some(y)) => Some(lesser(x, y)),
-        (Some(_), None) => a,
-        (None, _) => b,
-    }
-}
 
 pub fn passes_fault(least: u16, most: u16) -> Option<Refusal>
     ensures { result ≡ passes_fault_lem least most }
@@ -39,7 +21,7 @@ pub fn node_fault(scopes: usize, node: Node) -> Option<Refusal>
 {
     match node {
         Node::Block { time, .. } if time > LONGEST => Some(Refusal::BadFigure),
-        Node::Call { scope } if scope as usize >= scopes => Some(Refusal::Missing),
+        Node::Call { scope } if usize::from(scope) >= scopes => Some(Refusal::Missing),
         _ => None,
     }
 }
@@ -53,19 +35,13 @@ fn effect_over(effect: i32) -> bool
 fn leads_beyond(nodes: usize, to: Target) -> bool
     ensures { result ≡ leads_beyond_lem nodes to }
 {
-    match to {
-        Target::To(n) => nodes <= n as usize,
-        Target::Again | Target::Leave => false,
-    }
+    matches!(to, Target::To(n) if nodes <= usize::from(n))
 }
 
 fn leads_back(from: u8, to: Target) -> bool
     ensures { result ≡ leads_back_lem from to }
 {
-    match to {
-        Target::To(n) => n <= from,
-        Target::Again | Target::Leave => false,
-    }
+    matches!(to, Target::To(n) if n <= from)
 }
 
 // An edge weighs its start's time, if that is a block, plus its effect.
@@ -84,7 +60,7 @@ pub fn edge_fault(nodes: usize, start: Option<Node>, edge: Edge) -> Option<Refus
 {
     if effect_over(edge.effect) {
         Some(Refusal::BadFigure)
-    } else if nodes <= edge.from as usize || leads_beyond(nodes, edge.to) {
+    } else if nodes <= usize::from(edge.from) || leads_beyond(nodes, edge.to) {
         Some(Refusal::Missing)
     } else if leads_back(edge.from, edge.to) {
         Some(Refusal::NotForward)
@@ -99,18 +75,15 @@ fn names_beyond(nodes: usize, constraint: Constraint) -> bool
     ensures { result ≡ names_beyond_lem nodes constraint }
 {
     match constraint {
-        Constraint::Bar(n) | Constraint::Must(n) => nodes <= n as usize,
-        Constraint::Pair(n, m) => nodes <= n as usize || nodes <= m as usize,
+        Constraint::Bar(n) | Constraint::Must(n) => nodes <= usize::from(n),
+        Constraint::Pair(n, m) => nodes <= usize::from(n) || nodes <= usize::from(m),
     }
 }
 
 fn names_twice(constraint: Constraint) -> bool
     ensures { result ≡ names_twice_lem constraint }
 {
-    match constraint {
-        Constraint::Bar(_) | Constraint::Must(_) => false,
-        Constraint::Pair(n, m) => n == m,
-    }
+    matches!(constraint, Constraint::Pair(n, m) if n == m)
 }
 
 pub fn fact_fault(nodes: usize, most: u16, fact: Fact) -> Option<Refusal>

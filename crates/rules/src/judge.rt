@@ -4,7 +4,7 @@ ghost use Rattle.std.specs.List.{slice_get};
 ghost use Rattle.model.specs.Rules.{Ring, Judged};
 ghost use Rattle.rules.specs.Faults.{over, lowest, scope_finding_lem, Sized};
 
-use crate::item::lower;
+use crate::finding::{lower, lowest_of};
 use crate::limits::SCOPES;
 use crate::order::call_order;
 use crate::scope::{over_limit, scope_finding};
@@ -15,22 +15,7 @@ use model::scope_graph::ScopeGraph;
 fn some_over_limit<G: ScopeGraph>(graph: &G, scopes: usize) -> bool
     ensures { MatchBool result ((k : ℕ) × (k < scopes) × (over (slice_get (G.ScopeGraph.graph graph.now) k) ≡ true)) ((k : ℕ) → k < scopes → over (slice_get (G.ScopeGraph.graph graph.now) k) ≡ false) }
 {
-    for scope in 0..scopes {
-        if over_limit(graph, scope) {
-            return true;
-        }
-    }
-    false
-}
-
-fn scope_faults<G: ScopeGraph>(graph: &G, scopes: usize) -> Option<Refusal>
-    ensures { result ≡ lowest (scope_finding_lem (G.ScopeGraph.graph graph.now) scopes) scopes }
-{
-    let mut fault = None;
-    for scope in 0..scopes {
-        fault = lower(fault, scope_finding(graph, scopes, scope));
-    }
-    fault
+    (0..scopes).any(|scope| over_limit(graph, scope))
 }
 
 // Does a scope reach itself through calls?
@@ -38,10 +23,7 @@ fn has_ring<G: ScopeGraph>(graph: &G) -> bool
     requires { length (G.ScopeGraph.graph graph.now) ≤ 16 }
     ensures { MatchBool result (Ring (G.ScopeGraph.graph graph.now)) (Ring (G.ScopeGraph.graph graph.now) → ⊥) }
 {
-    match call_order(graph) {
-        Some(_) => false,
-        None => true,
-    }
+    call_order(graph).is_none()
 }
 
 // The rules of size: past them a graph is small, and each of its items can be looked at.
@@ -65,7 +47,8 @@ pub fn first_broken<G: ScopeGraph>(graph: &G) -> Option<Refusal>
     if let Some(fault) = size_fault(graph) {
         return Some(fault);
     }
-    let fault = scope_faults(graph, graph.scopes());
+    let scopes = graph.scopes();
+    let fault = lowest_of(scopes, |scope| scope_finding(graph, scopes, scope));
     if has_ring(graph) {
         lower(fault, Some(Refusal::CallRing))
     } else {

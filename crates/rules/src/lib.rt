@@ -2,6 +2,7 @@
 #![tactic(auto)]
 
 mod calls;
+mod finding;
 mod item;
 pub mod judge;
 pub mod limits;

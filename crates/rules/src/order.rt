@@ -15,12 +15,8 @@ fn next_ready(
     requires { scopes ≤ 16 }
     ensures { Next table.now placed.now scopes result }
 {
-    for scope in 0..scopes {
-        if !placed[scope] && ready(&table[scope], placed, scopes) {
-            return Some(scope);
-        }
-    }
-    None
+    let mut rows = table.iter().zip(placed).take(scopes);
+    rows.position(|(row, done)| !*done && ready(row, placed, scopes))
 }
 
 // The scopes in an order in which every called scope stands before its callers. There is none for
@@ -32,9 +28,10 @@ pub fn call_order<G: ScopeGraph>(graph: &G) -> Option<[u8; SCOPES]>
     if scopes > SCOPES {
         return None;
     }
-    let table = call_table(graph, scopes);
+    let table = call_table(graph);
     let mut order = [0; SCOPES];
     let mut placed = [false; SCOPES];
+    // By index: what is written through `iter_mut` is not known after it.
     for k in 0..scopes {
         let scope = next_ready(&table, &placed, scopes)?;
         placed[scope] = true;

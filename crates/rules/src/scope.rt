@@ -3,7 +3,8 @@ ghost use Rattle.std.specs.Prelude.{◌≡◌};
 ghost use Rattle.std.specs.List.{slice_get};
 ghost use Rattle.rules.specs.Faults.{node_finding_lem, edge_finding_lem, fact_finding_lem, scope_finding_lem, lowest, over};
 
-use crate::item::{edge_fault, fact_fault, lower, node_fault, passes_fault};
+use crate::finding::{lower, lowest_of};
+use crate::item::{edge_fault, fact_fault, node_fault, passes_fault};
 use crate::limits::{EDGES, FACTS, NODES};
 use model::refusal::Refusal;
 use model::scope_graph::ScopeGraph;
@@ -31,7 +32,7 @@ fn edge_finding<G: ScopeGraph>(graph: &G, nodes: usize, scope: usize, n: usize) 
     ensures { result ≡ edge_finding_lem (G.ScopeGraph.graph graph.now) nodes scope n }
 {
     let edge = graph.edge(scope, n)?;
-    let start = graph.node(scope, edge.from as usize);
+    let start = graph.node(scope, usize::from(edge.from));
     edge_fault(nodes, start, edge)
 }
 
@@ -48,52 +49,6 @@ fn fact_finding<G: ScopeGraph>(
     fact_fault(nodes, most, fact)
 }
 
-fn node_faults<G: ScopeGraph>(
-    graph: &G,
-    scopes: usize,
-    scope: usize,
-    nodes: usize,
-) -> Option<Refusal>
-    ensures { result ≡ lowest (node_finding_lem (G.ScopeGraph.graph graph.now) scopes scope) nodes }
-{
-    let mut fault = None;
-    for n in 0..nodes {
-        fault = lower(fault, node_finding(graph, scopes, scope, n));
-    }
-    fault
-}
-
-fn edge_faults<G: ScopeGraph>(
-    graph: &G,
-    nodes: usize,
-    scope: usize,
-    edges: usize,
-) -> Option<Refusal>
-    ensures { result ≡ lowest (edge_finding_lem (G.ScopeGraph.graph graph.now) nodes scope) edges }
-{
-    let mut fault = None;
-    for n in 0..edges {
-        fault = lower(fault, edge_finding(graph, nodes, scope, n));
-    }
-    fault
-}
-
-fn fact_faults<G: ScopeGraph>(
-    graph: &G,
-    nodes: usize,
-    most: u16,
-    scope: usize,
-    facts: usize,
-) -> Option<Refusal>
-    ensures { result ≡ lowest (fact_finding_lem (G.ScopeGraph.graph graph.now) nodes most scope) facts }
-{
-    let mut fault = None;
-    for n in 0..facts {
-        fault = lower(fault, fact_finding(graph, nodes, most, scope, n));
-    }
-    fault
-}
-
 // The broken rule of the smallest number in a scope, where it is there.
 pub fn scope_finding<G: ScopeGraph>(graph: &G, scopes: usize, scope: usize) -> Option<Refusal>
     ensures { result ≡ scope_finding_lem (G.ScopeGraph.graph graph.now) scopes scope }
@@ -102,9 +57,9 @@ pub fn scope_finding<G: ScopeGraph>(graph: &G, scopes: usize, scope: usize) -> O
     let nodes = graph.nodes(scope)?;
     let edges = graph.edges(scope)?;
     let facts = graph.facts(scope)?;
-    let in_facts = fact_faults(graph, nodes, most, scope, facts);
-    let in_edges = edge_faults(graph, nodes, scope, edges);
-    let in_nodes = node_faults(graph, scopes, scope, nodes);
+    let in_nodes = lowest_of(nodes, |n| node_finding(graph, scopes, scope, n));
+    let in_edges = lowest_of(edges, |n| edge_finding(graph, nodes, scope, n));
+    let in_facts = lowest_of(facts, |n| fact_finding(graph, nodes, most, scope, n));
     lower(
         passes_fault(least, most),
         lower(in_nodes, lower(in_edges, in_facts)),

@@ -1,5 +1,6 @@
-use Rattle.rules.proofs.Rings.{no_ring}
+use Rattle.rules.proofs.Rings.{ring_where_none}
 use Rattle.rules.proofs.judge.has_ring.Goals as goal
 
-pub returns-in-Some : goal.returns-in-Some
-returns-in-Some g c = no_ring (g.G.ScopeGraph.graph c.args.graph.now) _ c.in-Some.ensures
+pub returns : goal.returns
+returns g c =
+    ring_where_none (g.G.ScopeGraph.graph c.args.graph.now) c.call_order.result c.is_none.result c.requires c.call_order.ensures c.is_none.ensures

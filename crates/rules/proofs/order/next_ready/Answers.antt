@@ -1,13 +1,14 @@
-use Rattle.std.proofs.Common.{◌≡◌, false, [], get_or, below_more}
-use Rattle.std.proofs.lemmas.Bool.{both_ways}
-use Rattle.rules.specs.CallOrders.{Blocked}
+use Rattle.std.proofs.Common.{◌≡◌, false, rules, tests}
+use Rattle.std.proofs.lemmas.Iterator.{YieldsList-from_slice, YieldsList-from_zip, YieldsList-from_take, IsFirst-from_position}
+use Rattle.rules.specs.CallOrders.{Ready, Blocked}
+use Rattle.rules.proofs.Places.{next_of}
 use Rattle.rules.proofs.order.next_ready.Goals as goal
-use Rattle.rules.proofs.order.next_ready.Goals.{else-not-placed-scope-via-then-not-placed-scope+else-ready, else-not-placed-scope-via-else-not-placed-scope}
 
-pub loop-scope-preserved : goal.loop-scope-preserved
-loop-scope-preserved c =
-    below_more (λ s. get_or c.args.placed.now s false ≡ false → Blocked (get_or c.args.table.now s []) c.args.placed.now c.args.scopes) c.loop-scope.scope c.loop-scope.invariant
-    (elim c.else-not-placed-scope.branch [
-      | else-not-placed-scope-via-then-not-placed-scope+else-ready w ↦ λ _. w.if-ready.ensures
-      | else-not-placed-scope-via-else-not-placed-scope w ↦ λ e. absurd (both_ways _ e w.if-not-placed-scope.false)
-    ])
+pub returns : goal.returns
+returns c =
+    let placed = c.args.placed.now in
+    let n = c.args.scopes in
+    next_of c.args.table.now placed n (search rules) (search rules) c.position.result
+    (IsFirst-from_position c.position.new.self _ _ (λ x. (x.1 ≡ false) × Ready x.0 placed n) (λ x. x.1 ≡ false → Blocked x.0 placed n) c.position.ensures.ran
+    (YieldsList-from_take n (YieldsList-from_zip (YieldsList-from_slice c.args.table.now (search rules)) (YieldsList-from_slice placed (search rules))) (search rules))
+    (λ x q k. search (rules, tests)) (λ x q k. search (rules, tests)))

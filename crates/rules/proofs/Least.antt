@@ -1,14 +1,20 @@
 -- The lowest of several findings.
-use Rattle.std.proofs.Common.{◌≡◌, ℕ, zero, suc, ◌+◌, ◌<◌, ◌≤◌, Bool, cond, ltb, ◌⊎◌, Some, None, Decides, Option, refl, ap, ◌∙◌, subst, inl, inr, add-one, arith}
+use Rattle.std.proofs.Common.{◌≡◌, ℕ, zero, suc, ◌<◌, ◌≤◌, Bool, cond, ltb, ◌⊎◌, [], ◌∷◌, map, fold, Some, None, Decides, Option, sym, refl, ap, ◌∙◌, subst, inl, inr, add-one, arith}
+use Rattle.std.specs.List.{range_with_len}
+use Rattle.std.proofs.lemmas.List.FromFn.{map-range_with_len_more}
+use Rattle.std.proofs.lemmas.List.Sums.{fold-append}
 use Rattle.std.proofs.lemmas.Bool.{cond_both, ltb-true, ltb-false, cases_eq}
 use Rattle.std.proofs.lemmas.Bool.Decides.{not_from_Decides}
 use Rattle.model.specs.declared.refusal.Refusal.{Refusal}
 use Rattle.model.specs.Numbers.{number}
 use Rattle.rules.specs.Faults.{lower, found, lowest}
 
--- one finding more
-pub lowest_more : (f : ℕ → Option Refusal) (n : ℕ) (a b r : Option Refusal) → r ≡ lower a b → a ≡ lowest f n → b ≡ f n → r ≡ lowest f (n + 1)
-lowest_more f n a b r e h k = rw add-one (e ∙ ap (λ z. lower z b) h ∙ ap (lower (lowest f n)) k)
+-- the findings, joined one after the other
+pub lowest_fold : (f : ℕ → Option Refusal) (n : ℕ) → fold lower None (map f (range_with_len 0 n)) ≡ lowest f n
+lowest_fold f zero = refl
+lowest_fold f (suc n) =
+    let xs = map f (range_with_len 0 n) in
+    ap (λ k. fold lower None (map f (range_with_len 0 k))) (sym (add-one n)) ∙ ap (fold lower None) (map-range_with_len_more f 0 n n (omega arith)) ∙ fold-append lower None xs (f n ∷ []) ∙ ap (λ z. lower z (f n)) (lowest_fold f n)
 
 -- the refusal of the smallest number of which P holds, or none where it holds of none
 abbrev pub Least : (Refusal → Type 0) → Option Refusal → Type 0
