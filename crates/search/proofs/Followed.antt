@@ -2,6 +2,7 @@
 use Rattle.std.proofs.Common.{◌≡◌, ℕ, ◌-◌, ◌<◌, ◌≤◌, true, List, [], ◌∷◌, ◌++◌, length, get_or, is_some, Some, None, Option, sym, refl, ap, ◌∙◌, subst, append_assoc, arith, length-append}
 use Rattle.std.specs.List.{slice_get}
 use Rattle.std.proofs.lemmas.List.{append-nil}
+use Rattle.std.proofs.lemmas.Option.{slice_get_within, get_or_from_slice_get}
 use Rattle.model.specs.declared.graph.Target.{Target}
 use Rattle.model.specs.declared.graph.Target.TheVariants.{To, Again, Leave}
 use Rattle.model.specs.declared.graph.Edge.{Edge}
@@ -9,7 +10,6 @@ use Rattle.model.proofs.Bests.{some_same}
 use Rattle.search.specs.declared.flow.Flow.{Flow}
 use Rattle.search.specs.Flows.{edges_of}
 use Rattle.search.specs.Ways.{Follows, Guides}
-use Rattle.search.proofs.Held.{taken_at}
 
 -- how many nodes are left to come
 abbrev pub left_from : Target → ℕ
@@ -53,11 +53,12 @@ underway_done edges choices n Leave es away h = subst (Follows edges choices (To
 
 -- a turn of the loop: the edge that is taken at node k
 pub taking : (f : Flow) (choices : List (Option ℕ)) (place : Target) (es : List ℕ) (k e : ℕ) → Guides (edges_of f) choices f.nodes → Underway (edges_of f) choices f.nodes place es → place ≡ To k → get_or choices k None ≡ Some e →
-    (d : Edge) → (e < 96) × (left_from (get_or f.edges.items e d).to < left_from place) × Underway (edges_of f) choices f.nodes (get_or f.edges.items e d).to (es ++ (e ∷ []))
+    (d : Edge) → (e < length (edges_of f)) × (left_from (get_or (edges_of f) e d).to < left_from place) × Underway (edges_of f) choices f.nodes (get_or (edges_of f) e d).to (es ++ (e ∷ [])) × (length es < 32)
 taking f choices place es k e guides under is chosen d = (
-  omega (arith, r.0, f.fewedges),
-  subst (λ (y : Edge). left_from y.to < left_from place) (sym r.1) (subst (λ p. left_from x.to < left_from p) (sym is) (falls x.to refl)),
-  subst (λ (y : Edge). Underway (edges_of f) choices f.nodes y.to (es ++ (e ∷ []))) (sym r.1) (underway_more (edges_of f) choices f.nodes k e es x guides chosen g.1 here),
+  slice_get_within (edges_of f) e g.0 g.1,
+  subst (λ (y : Edge). left_from y.to < left_from place) (sym r) (subst (λ p. left_from x.to < left_from p) (sym is) (falls x.to refl)),
+  subst (λ (y : Edge). Underway (edges_of f) choices f.nodes y.to (es ++ (e ∷ []))) (sym r) (underway_more (edges_of f) choices f.nodes k e es x guides chosen g.1 here),
+  omega (arith, here.node.0, here.node.2, f.fewnodes),
 )
   where
     here : Underway (edges_of f) choices f.nodes (To k) es
@@ -69,8 +70,8 @@ taking f choices place es k e guides under is chosen d = (
     x : Edge
     x = g.0
 
-    r : (e < f.edges.len) × (get_or f.edges.items e d ≡ g.0)
-    r = taken_at f.edges.len f.edges.items e g.0 d g.1
+    r : get_or (edges_of f) e d ≡ g.0
+    r = get_or_from_slice_get (edges_of f) e g.0 d g.1
 
     falls : (t : Target) → g.0.to ≡ t → left_from t < left_from (To k)
     falls (To v) q = let s = g.2 v q in omega (arith, s.0, s.1, f.fewnodes)

@@ -1,12 +1,10 @@
 -- What a flow is known to hold, where the search reads it.
-use Rattle.std.proofs.Common.{◌≡◌, ℕ, zero, suc, ◌+◌, ◌<◌, ◌≤◌, List, [], ◌∷◌, length, get_or, take, Some, None, Option, sym, refl, ap, ◌∙◌, subst, add-one, arith, length-take}
-use Rattle.std.proofs.lemmas.Option.{slice_get_past}
-use Rattle.std.specs.List.{slice_get}
+use Rattle.std.proofs.Common.{◌≡◌, ℕ, suc, ◌+◌, ◌<◌, List, get_or, Some, None, Option, sym, refl, ap, ◌∙◌, subst, add-one, arith, length-take}
+use Rattle.std.proofs.lemmas.Option.{slice_get_within, get_or_from_slice_get}
 use Rattle.model.specs.declared.graph.Edge.{Edge}
 use Rattle.model.specs.declared.graph.Target.TheVariants.{To}
 use Rattle.model.specs.Measures.{Measure, Laws}
 use Rattle.model.specs.Best.{IsBest}
-use Rattle.model.proofs.Bests.{none_some, some_same}
 use Rattle.search.specs.declared.flow.Flow.{Flow}
 use Rattle.search.specs.Flows.{edges_of}
 use Rattle.search.specs.Walks.{Forward, TailCost, exit_from}
@@ -21,27 +19,11 @@ use Rattle.search.proofs.Steps.{FromBelow, offer_best, below_more, costlier_cost
 pub flow_forward : (f : Flow) → Forward (edges_of f) f.nodes
 flow_forward f = forward_is f.nodes (edges_of f) f.forward
 
--- what stands in the front of a list
-pub taken_at : {A : Type 0} (n : ℕ) (xs : List A) (e : ℕ) (x d : A) → slice_get (take n xs) e ≡ Some x → (e < n) × (get_or xs e d ≡ x)
-taken_at zero xs e x d h = absurd (none_some h)
-taken_at (suc n) [] e x d h = absurd (none_some h)
-taken_at (suc n) (y ∷ ys) zero x d h = (omega arith, some_same h)
-taken_at (suc n) (y ∷ ys) (suc e) x d h = let r = taken_at n ys e x d h in (omega (arith, r.0), r.1)
-
-pub taken_read : {A : Type 0} (n : ℕ) (xs : List A) (i : ℕ) (d : A) → i < n → i < length xs → slice_get (take n xs) i ≡ Some (get_or xs i d)
-taken_read zero xs i d h l = absurd (omega arith)
-taken_read (suc n) [] i d h l = absurd (omega arith)
-taken_read (suc n) (x ∷ xs) zero d h l = refl
-taken_read (suc n) (x ∷ xs) (suc i) d h l = taken_read n xs i d (omega arith) (omega arith)
-
-pub taken_past : {A : Type 0} (n : ℕ) (xs : List A) (i : ℕ) → n ≤ i → slice_get (take n xs) i ≡ None
-taken_past n xs i h = slice_get_past (take n xs) i (simp length-take (omega arith))
-
 -- the next edge out of node k from number i on
 pub record IsTurn (f : Flow) (k i e : ℕ) : Type 0 where
   pub exit : IsExit (edges_of f) k i e
   pub small : e < 96
-  pub item : (d : Edge) → get_or f.edges.items e d ≡ exit.edge
+  pub item : (d : Edge) → get_or (edges_of f) e d ≡ exit.edge
   pub next : get_or f.exits.next e None ≡ exit_from (edges_of f) k (suc e)
 
 pub turn : (f : Flow) (k i e : ℕ) → exit_from (edges_of f) k i ≡ Some e → IsTurn f k i e
@@ -49,8 +31,8 @@ turn f k i e h =
     let x = exit_some (edges_of f) k i e h in
     record {
       exit = x;
-      small = let r = taken_at f.edges.len f.edges.items e x.edge x.edge x.there in omega (arith, r.0, f.fewedges);
-      item = λ d. (taken_at f.edges.len f.edges.items e x.edge d x.there).1;
+      small = let r = slice_get_within (edges_of f) e x.edge x.there in omega (arith, simp length-take at r, f.edges.short);
+      item = λ d. get_or_from_slice_get (edges_of f) e x.edge d x.there;
       next = kept_next (edges_of f) f.exits.next f.nexts e x.edge x.there ∙ ap (λ j. exit_from (edges_of f) j (e + 1)) x.starts ∙ ap (exit_from (edges_of f) k) (add-one e);
     }
 

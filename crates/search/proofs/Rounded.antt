@@ -9,7 +9,7 @@ use Rattle.model.proofs.Bests.{none_some, best_same, best_either}
 use Rattle.search.specs.declared.ending.Ending.{Ending}
 use Rattle.search.specs.declared.flow.Flow.{Flow}
 use Rattle.search.specs.declared.found.Costliest.{Costliest}
-use Rattle.search.specs.declared.way.Way.{Way}
+use Rattle.row.specs.declared.row.Row.{Row}
 use Rattle.search.specs.Endings.{stop}
 use Rattle.search.specs.Flows.{edges_of, facts_of}
 use Rattle.search.specs.Found.{IsShown, IsCostliest, IsRoundBest, costlier_by, costlier_of_lem}
@@ -23,7 +23,7 @@ use Rattle.search.proofs.Held.{flow_forward}
 use Rattle.search.proofs.Splits.{tail_round, round_tail, walk_round, round_way, round_pass, pass_round}
 use Rattle.search.proofs.Walked.{followed}
 
-module _ {C : Type 0} {m : Measure C} (laws : Laws m) (value : ℕ → Option C) (f : Flow) (k r : ℕ) (end : Ending) (w : Way) where
+module _ {C : Type 0} {m : Measure C} (laws : Laws m) (value : ℕ → Option C) (f : Flow) (k r : ℕ) (end : Ending) (w : Row ℕ 32) where
   -- without nodes there is no way
   no_way : f.nodes ≡ 0 → (es : List ℕ) → IsWay (edges_of f) (To 0) (stop end) es → ⊥
   no_way none [] v = to_stop end 0 v
@@ -91,7 +91,7 @@ module _ {C : Type 0} {m : Measure C} (laws : Laws m) (value : ℕ → Option C)
     pub shown : OnSome (IsShown m value (edges_of f) (facts_of f) k end (way_edges x.way)) x.cost
     pub blank : x.cost ≡ None → way_edges x.way ≡ []
 
-  pub rounds_none : (w : Way) → way_edges w ≡ [] → AreRounds 0 (record { cost = None; way = w })
+  pub rounds_none : (w : Row ℕ 32) → way_edges w ≡ [] → AreRounds 0 (record { cost = None; way = w })
   rounds_none w q = record { best = λ c t. omega (arith, t.1); shown = tt; blank = λ p. q }
 
   pub rounds_skip : (i : ℕ) (x : Costliest C) → false ≡ useful (facts_of f) k i → AreRounds i x → AreRounds (i + 1) x

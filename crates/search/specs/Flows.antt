@@ -1,15 +1,16 @@
 -- What a flow holds, and which edges and facts make one.
-use Rattle.std.specs.Prelude.{◌≡◌, ℕ, ◌≤◌, List, length, take, Some, None, Option}
+use Rattle.std.specs.Prelude.{◌≡◌, ℕ, ◌≤◌, List, length, Some, None, Option}
 use Rattle.model.specs.declared.graph.Edge.{Edge}
 use Rattle.model.specs.declared.graph.Fact.{Fact}
 use Rattle.search.specs.declared.flow.Flow.{Flow}
 use Rattle.search.specs.Walks.{Forward}
+use Rattle.row.specs.Rows.{items_of}
 
 abbrev pub edges_of : Flow → List Edge
-edges_of f = take f.edges.len f.edges.items
+edges_of f = items_of f.edges
 
 abbrev pub facts_of : Flow → List Fact
-facts_of f = take f.facts.len f.facts.items
+facts_of f = items_of f.facts
 
 -- the limits of a flow
 pub record IsFlow (nodes : ℕ) (edges : List Edge) (facts : List Fact) : Type 0 where

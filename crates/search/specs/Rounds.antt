@@ -37,10 +37,14 @@ paired (Pair n m) = true
 abbrev pub splits : Fact → ℕ → Bool
 splits f k = not (nat_lt k f.first || nat_lt f.last k) && paired f.constraint
 
+-- every fact passes the test, each with its digit
+abbrev pub told : (Fact → Bool → Bool) → List Fact → ℕ → Bool
+told t [] r = true
+told t (f ∷ fs) r = t f (odd r) && told t fs (r / 2)
+
 -- a round in which only pairs in force have the second node avoided: the others would say the same again
 abbrev pub useful : List Fact → ℕ → ℕ → Bool
-useful [] k r = true
-useful (f ∷ fs) k r = (splits f k || not (odd r)) && useful fs k (r / 2)
+useful fs k r = told (λ f second. splits f k || not second) fs r
 
 -- every edge of the way passes the test
 abbrev pub Uses : (Edge → Bool) → List Edge → List ℕ → Type 0

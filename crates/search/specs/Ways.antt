@@ -1,13 +1,14 @@
 -- The edges of a way, and a walk that follows choices.
-use Rattle.std.specs.Prelude.{◌≡◌, ℕ, ◌<◌, true, List, [], ◌∷◌, take, is_some, Some, None, Option, slice_index_or}
+use Rattle.std.specs.Prelude.{◌≡◌, ℕ, ◌<◌, true, List, [], ◌∷◌, is_some, Some, None, Option, slice_index_or}
 use Rattle.std.specs.List.{slice_get}
 use Rattle.model.specs.declared.graph.Target.{Target}
 use Rattle.model.specs.declared.graph.Target.TheVariants.{To, Again, Leave}
 use Rattle.model.specs.declared.graph.Edge.{Edge}
-use Rattle.search.specs.declared.way.Way.{Way}
+use Rattle.row.specs.declared.row.Row.{Row}
+use Rattle.row.specs.Rows.{items_of}
 
-abbrev pub way_edges : Way → List ℕ
-way_edges w = take w.len w.items
+abbrev pub way_edges : Row ℕ 32 → List ℕ
+way_edges w = items_of w
 
 -- from a target on, each edge is the one chosen at the node where the walk stands, up to an ending
 abbrev pub Follows : List Edge → List (Option ℕ) → Target → List ℕ → Type 0

@@ -10,8 +10,8 @@ use crate::found::Costliest;
 use crate::table::{entry_at, fill};
 use crate::usable::{is_useful, usable_edges};
 use crate::values::EdgeValues;
-use crate::way::Way;
 use model::cost::Cost;
+use row::row::Row;
 
 // The costliest pass that uses only the edges left in this round.
 fn round_best<C: Cost, V: EdgeValues<C>>(
@@ -28,7 +28,7 @@ fn round_best<C: Cost, V: EdgeValues<C>>(
     if flow.nodes == 0 {
         return Costliest {
             cost: None,
-            way: Way::new(),
+            way: Row::new(0),
         };
     }
     let usable = usable_edges(flow, pass, round);
@@ -36,7 +36,7 @@ fn round_best<C: Cost, V: EdgeValues<C>>(
     match entry_at(table, &choices, 0) {
         None => Costliest {
             cost: None,
-            way: Way::new(),
+            way: Row::new(0),
         },
         Some(cost) => Costliest {
             cost: Some(cost),
@@ -86,9 +86,9 @@ impl Flow {
         }
         let mut best = Costliest {
             cost: None,
-            way: Way::new(),
+            way: Row::new(0),
         };
-        for round in 0..rounds(self.facts.len) {
+        for round in 0..rounds(self.facts.len()) {
             if is_useful(self, pass, round) {
                 best = costlier_pass(best, round_best(self, values, pass, round, ending, table));
             }

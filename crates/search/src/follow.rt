@@ -7,6 +7,7 @@ ghost use Rattle.search.specs.Ways.{way_edges, Follows, Guides};
 use crate::flow::Flow;
 use crate::way::Way;
 use model::graph::Target;
+use row::row::Row;
 
 pub fn follow(flow: &Flow, choices: &[Option<u8>; 32]) -> Way
     requires some { 0 < flow.now.nodes }
@@ -14,14 +15,16 @@ pub fn follow(flow: &Flow, choices: &[Option<u8>; 32]) -> Way
     requires guides { Guides (edges_of flow.now) choices.now flow.now.nodes }
     ensures { Follows (edges_of flow.now) choices.now (To 0) (way_edges result) }
 {
-    let mut way = Way::new();
+    let edges = flow.edges.as_slice();
+    let mut way = Row::new(0);
     let mut place = Target::To(0);
     while let Target::To(node) = place {
         let Some(edge) = choices[node as usize] else {
             return way;
         };
-        way.push(edge);
-        place = flow.edges.items[edge as usize].to;
+        // there is room: the walk goes on to later nodes alone
+        let _ = way.push(edge);
+        place = edges[edge as usize].to;
     }
     way
 }

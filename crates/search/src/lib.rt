@@ -2,7 +2,6 @@
 // An edge is known here by its start, its target and its value alone.
 #![tactic(auto)]
 
-pub mod answers;
 pub mod costliest;
 pub mod ending;
 mod exits;
@@ -12,7 +11,6 @@ pub mod found;
 pub mod power;
 pub mod prepare;
 mod restriction;
-mod rows;
 mod step;
 mod table;
 mod usable;

@@ -1,12 +1,25 @@
 // Making a flow.
-ghost use Rattle.std.specs.Prelude.{◌≡◌, ◌≤◌, Bool, true, ◌++◌, length, take, drop};
+ghost use Rattle.std.specs.Prelude.{◌≡◌};
 ghost use Rattle.search.specs.Flows.{Prepared};
 ghost use Rattle.search.specs.Walks.{leads_forward_lem, all_forward_lem};
 
 use crate::exits::exits_of;
 use crate::flow::Flow;
-use crate::rows::{EdgeRow, FactRow};
 use model::graph::{Constraint, Edge, Fact, Target};
+use row::row::Row;
+
+// What fills the places that are not taken.
+const NO_EDGE: Edge = Edge {
+    from: 0,
+    to: Target::Leave,
+    effect: 0,
+};
+
+const NO_FACT: Fact = Fact {
+    constraint: Constraint::Bar(0),
+    first: 0,
+    last: 0,
+};
 
 // Does the edge join two of these nodes in rising order, or one of them and an ending?
 fn leads_forward(edge: Edge, nodes: usize) -> bool
@@ -15,8 +28,7 @@ fn leads_forward(edge: Edge, nodes: usize) -> bool
     (edge.from as usize) < nodes
         && match edge.to {
             Target::To(v) => edge.from < v && (v as usize) < nodes,
-            Target::Again => true,
-            Target::Leave => true,
+            Target::Again | Target::Leave => true,
         }
 }
 
@@ -31,63 +43,22 @@ fn all_forward(edges: &[Edge], nodes: usize) -> bool
     true
 }
 
-// The front of a table becomes these items.
-fn copy_into<T: Copy>(table: &mut [T], items: &[T])
-    requires { length items.now ≤ length table.old }
-    ensures { table.new ≡ items.now ++ drop (length items.now) table.old }
-{
-    table[0..items.len()].copy_from_slice(items);
-}
-
-fn edge_row(edges: &[Edge]) -> EdgeRow
-    requires { length edges.now ≤ 96 }
-    ensures items { take result.len result.items ≡ edges.now }
-    ensures len { result.len ≡ length edges.now }
-{
-    let mut items = [Edge {
-        from: 0,
-        to: Target::Leave,
-        effect: 0,
-    }; 96];
-    copy_into(&mut items, edges);
-    EdgeRow {
-        items,
-        len: edges.len(),
-    }
-}
-
-fn fact_row(facts: &[Fact]) -> FactRow
-    requires { length facts.now ≤ 4 }
-    ensures items { take result.len result.items ≡ facts.now }
-    ensures len { result.len ≡ length facts.now }
-{
-    let mut items = [Fact {
-        constraint: Constraint::Bar(0),
-        first: 0,
-        last: 0,
-    }; 4];
-    copy_into(&mut items, facts);
-    FactRow {
-        items,
-        len: facts.len(),
-    }
-}
-
 impl Flow {
     // The edges and facts of a scope with so many nodes; none where they pass the limits or an edge does not lead forward.
     pub fn new(nodes: usize, edges: &[Edge], facts: &[Fact]) -> Option<Flow>
         ensures { Prepared nodes edges.now facts.now result }
     {
-        if nodes > 32 || edges.len() > 96 || facts.len() > 4 {
+        if nodes > 32 || !all_forward(edges, nodes) {
             return None;
         }
-        if !all_forward(edges, nodes) {
-            return None;
-        }
+        let mut edge_row = Row::new(NO_EDGE);
+        edge_row.extend_from_slice(edges).ok()?;
+        let mut fact_row = Row::new(NO_FACT);
+        fact_row.extend_from_slice(facts).ok()?;
         Some(Flow {
             nodes,
-            edges: edge_row(edges),
-            facts: fact_row(facts),
+            edges: edge_row,
+            facts: fact_row,
             exits: exits_of(edges),
         })
     }

@@ -1,6 +1,6 @@
 // What the facts in force ask of a pass, as edges that it must not use.
-ghost use Rattle.std.specs.Prelude.{◌≡◌, ◌≤◌, length};
-ghost use Rattle.search.specs.Restrictions.{allows, restriction_of_lem, hits, passes_by_lem};
+ghost use Rattle.std.specs.Prelude.{◌≡◌, not, ◌||◌, nat_lt};
+ghost use Rattle.search.specs.Restrictions.{allows, restriction_of_lem, passes_by_lem};
 
 use model::graph::{Constraint, Edge, Fact, Target};
 
@@ -14,16 +14,6 @@ pub enum Restriction {
     Visit(u8),
 }
 
-fn leads_to(edge: Edge, node: u8) -> bool
-    ensures { result ≡ hits edge.to node }
-{
-    match edge.to {
-        Target::To(v) => v == node,
-        Target::Again => false,
-        Target::Leave => false,
-    }
-}
-
 // Does the edge leave the node out: start before it, and lead past it?
 fn passes_by(edge: Edge, node: u8) -> bool
     ensures { result ≡ passes_by_lem edge node }
@@ -31,8 +21,7 @@ fn passes_by(edge: Edge, node: u8) -> bool
     edge.from < node
         && match edge.to {
             Target::To(v) => node < v,
-            Target::Again => true,
-            Target::Leave => true,
+            Target::Again | Target::Leave => true,
         }
 }
 
@@ -42,16 +31,23 @@ pub fn allowed(restriction: Restriction, edge: Edge) -> bool
 {
     match restriction {
         Restriction::Free => true,
-        Restriction::Avoid(n) => n != 0 && !leads_to(edge, n),
+        Restriction::Avoid(n) => n != 0 && edge.to != Target::To(n),
         Restriction::Visit(n) => !passes_by(edge, n),
     }
+}
+
+// Is the fact in force in this pass?
+pub fn in_force(fact: Fact, pass: u16) -> bool
+    ensures { result ≡ not (nat_lt pass fact.first || nat_lt fact.last pass) }
+{
+    (fact.first..=fact.last).contains(&pass)
 }
 
 // What a fact asks of this pass; of a pair, either node can be the one to avoid.
 pub fn restriction_of(fact: Fact, pass: u16, second: bool) -> Restriction
     ensures { result ≡ restriction_of_lem fact pass second }
 {
-    if pass < fact.first || fact.last < pass {
+    if !in_force(fact, pass) {
         return Restriction::Free;
     }
     match fact.constraint {

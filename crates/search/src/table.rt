@@ -31,13 +31,7 @@ pub fn entry_at<C: Cost>(table: &[C], choices: &[Option<u8>; 32], node: usize) -
     requires { (node < length table.now) × (node < 32) }
     ensures { result ≡ entry table.now choices.now node }
 {
-    match choices[node] {
-        None => None,
-        Some(_) => {
-            let cost = table[node];
-            Some(cost)
-        }
-    }
+    choices[node].map(|_| table[node])
 }
 
 // What an edge offers, once the entries of the later nodes are known.
@@ -51,9 +45,7 @@ fn offer_of<C: Cost>(
     requires { (v : ℕ) → to ≡ To v → (v < length table.now) × (v < 32) }
     ensures { result ≡ offer C.measure value to ending table.now choices.now }
 {
-    let Some(cost) = value else {
-        return None;
-    };
+    let cost = value?;
     match (to, ending) {
         (Target::To(v), _) => {
             let rest = entry_at(table, choices, v as usize)?;
@@ -98,11 +90,12 @@ fn best_from<C: Cost, V: EdgeValues<C>>(
     ensures best { IsBest C.measure (TailCost C.measure (masked (V.EdgeValues.values values.now) usable.now) (edges_of flow.now) (stop ending) (To node)) (cost_of_lem result) }
     ensures linked { OnSome (IsStep C.measure (masked (V.EdgeValues.values values.now) usable.now) (edges_of flow.now) ending table.now choices.now node) result }
 {
+    let edges = flow.edges.as_slice();
     let mut best = None;
     let mut exit = flow.exits.first[node];
     while let Some(e) = exit {
         let edge = e as usize;
-        let to = flow.edges.items[edge].to;
+        let to = edges[edge].to;
         let value = value_of(values, usable, edge);
         best = costlier_of(best, offer_of(value, to, ending, table, choices), e);
         exit = flow.exits.next[edge];

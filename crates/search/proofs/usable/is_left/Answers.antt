@@ -1,14 +1,12 @@
-use Rattle.std.proofs.Common.{sym, ap, ◌∙◌}
-use Rattle.search.specs.Restrictions.{allows}
-use Rattle.search.specs.Rounds.{restrictions, allows_all}
-use Rattle.search.proofs.Lefts.{left_fails, left_more, facts_all}
+use Rattle.std.proofs.Common.{Bool, ap, ◌∙◌, rules}
+use Rattle.model.specs.declared.graph.Fact.{Fact}
+use Rattle.search.specs.Flows.{facts_of}
+use Rattle.search.specs.Restrictions.{allows, restriction_of_lem}
+use Rattle.search.specs.Rounds.{told}
+use Rattle.search.proofs.Lefts.{told_allows}
 use Rattle.search.proofs.usable.is_left.Goals as goal
 
-pub returns-then-not-allowed : goal.returns-then-not-allowed
-returns-then-not-allowed c = left_fails c.args.flow.now _ _ _ _ c.loop-j-test.true _ _ c.loop-j.invariant (c.if-not-allowed.ensures ∙ ap (λ d. allows d c.args.edge) c.restriction_of-restriction.ensures)
-
-pub loop-j-preserved : goal.loop-j-preserved
-loop-j-preserved c = left_more c.args.flow.now _ _ _ _ c.loop-j-test.true _ _ c.loop-j.invariant (c.if-not-allowed.ensures ∙ ap (λ d. allows d c.args.edge) c.restriction_of-restriction.ensures)
-
 pub returns : goal.returns
-returns c = sym (ap (λ fs. allows_all (restrictions fs c.args.pass c.loop-j.digits) c.args.edge) (facts_all c.args.flow.now c.loop-j.j c.loop-j-test.false)) ∙ c.loop-j.invariant
+returns c =
+    let t : Fact → Bool → Bool = λ f second. allows (restriction_of_lem f c.args.pass second) c.args.edge in
+    c.all_told.ensures t (λ f b r e. search rules) ∙ ap (λ fs. told t fs c.args.round) c.as_slice.ensures ∙ told_allows (facts_of c.args.flow.now) c.args.pass c.args.round c.args.edge

@@ -1,4 +1,4 @@
-use Rattle.std.proofs.Common.{◌≡◌, ◌+◌, ◌^◌, ◌≤◌, length, sym, ◌∙◌, subst, arith, length-take}
+use Rattle.std.proofs.Common.{◌+◌, ◌^◌, ◌≤◌, length, sym, ◌∙◌, subst, arith}
 use Rattle.search.specs.Flows.{facts_of}
 use Rattle.search.proofs.Rounded.{AreRounds, rounds_skip, rounds_more, rounds_all}
 use Rattle.search.proofs.flow.Flow.costliest.Goals as goal
@@ -22,6 +22,5 @@ loop-round-preserved g c =
 pub returns : goal.returns
 returns g c =
     let f = c.args.self.now in
-    let long : length (facts_of f) ≡ f.facts.len = simp length-take (omega (arith, f.widefacts, f.fewfacts)) in
-    let enough : 2 ^ length (facts_of f) ≤ c.loop-round.round = rw long (omega (arith, c.rounds-round-end.ensures, c.loop-round-test.false)) in
+    let enough : 2 ^ length (facts_of f) ≤ c.loop-round.round = rw (sym c.len.ensures.count) (omega (arith, c.rounds-round-end.ensures, c.loop-round-test.false)) in
     (omega arith, rounds_all g.C.Cost.laws (g.V.EdgeValues.values c.args.values.now) f c.args.pass c.args.ending c.loop-round.round c.loop-round.best enough c.loop-round.invariant)
