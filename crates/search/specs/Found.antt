@@ -35,8 +35,8 @@ abbrev pub Searched : {C : Type 0} → Measure C → (ℕ → Option C) → List
 Searched m value edges facts k end table table' None = (length table < 32) × (table' ≡ table)
 Searched m value edges facts k end table table' (Some x) = (32 ≤ length table) × IsCostliest m value edges facts k end x
 
--- the costlier of two
-abbrev pub costlier_by : {C : Type 0} → Measure C → Option C → Option C → Costliest C → Costliest C → Costliest C
+-- the costlier of two, by costs of which either may be absent
+abbrev pub costlier_by : {C X : Type 0} → Measure C → Option C → Option C → X → X → X
 costlier_by m a None x y = x
 costlier_by m None (Some b) x y = y
 costlier_by m (Some a) (Some b) x y = cond (m.leq b a) x y

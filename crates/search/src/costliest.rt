@@ -1,8 +1,9 @@
 // The costliest pass with an ending, under the facts in force.
 ghost use Rattle.std.specs.Prelude.{◌≡◌, ◌^◌, ◌≤◌, length};
 ghost use Rattle.search.specs.Flows.{edges_of, facts_of};
-ghost use Rattle.search.specs.Found.{Searched, IsRoundBest, costlier_of_lem};
+ghost use Rattle.search.specs.Found.{Searched, IsRoundBest};
 
+use crate::costlier::costlier;
 use crate::ending::Ending;
 use crate::flow::Flow;
 use crate::follow::follow;
@@ -45,29 +46,12 @@ fn round_best<C: Cost, V: EdgeValues<C>>(
     }
 }
 
-// The costlier of two passes, of which either may be absent.
-fn costlier_pass<C: Cost>(best: Costliest<C>, found: Costliest<C>) -> Costliest<C>
-    ensures { result ≡ costlier_of_lem C.measure best found }
-{
-    match (best.cost, found.cost) {
-        (_, None) => best,
-        (None, Some(_)) => found,
-        (Some(a), Some(b)) => { if b.at_most(a) { best } else { found } }
-    }
-}
-
 // Two rounds for each fact, since each may be a pair.
 fn rounds(facts: usize) -> u8
     requires { facts ≤ 4 }
     ensures { result ≡ 2 ^ facts }
 {
-    match facts {
-        0 => 1,
-        1 => 2,
-        2 => 4,
-        3 => 8,
-        _ => 16,
-    }
+    1 << facts
 }
 
 impl Flow {
@@ -90,7 +74,8 @@ impl Flow {
         };
         for round in 0..rounds(self.facts.len()) {
             if is_useful(self, pass, round) {
-                best = costlier_pass(best, round_best(self, values, pass, round, ending, table));
+                let found = round_best(self, values, pass, round, ending, table);
+                best = costlier(best.cost, found.cost, best, found);
             }
         }
         Some(best)

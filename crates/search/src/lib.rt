@@ -2,6 +2,7 @@
 // An edge is known here by its start, its target and its value alone.
 #![tactic(auto)]
 
+pub mod costlier;
 pub mod costliest;
 pub mod ending;
 mod exits;

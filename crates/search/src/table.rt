@@ -4,9 +4,10 @@ ghost use Rattle.model.specs.declared.graph.Target.TheVariants.{To};
 ghost use Rattle.model.specs.Best.{IsBest};
 ghost use Rattle.search.specs.Endings.{stop};
 ghost use Rattle.search.specs.Flows.{edges_of};
-ghost use Rattle.search.specs.Tables.{entry, offer, costlier, cost_of_lem, OnSome, IsStep, IsEntry};
+ghost use Rattle.search.specs.Tables.{entry, offer, costlier as costlier_step, cost_of_lem, OnSome, IsStep, IsEntry};
 ghost use Rattle.search.specs.Walks.{TailCost, masked};
 
+use crate::costlier::costlier;
 use crate::ending::Ending;
 use crate::flow::Flow;
 use crate::step::Step;
@@ -59,19 +60,14 @@ fn offer_of<C: Cost>(
 
 // The costlier of the best so far and what an edge offers.
 fn costlier_of<C: Cost>(best: Option<Step<C>>, offered: Option<C>, edge: u8) -> Option<Step<C>>
-    ensures { result ≡ costlier C.measure best offered edge }
+    ensures { result ≡ costlier_step C.measure best offered edge }
 {
-    match (best, offered) {
-        (_, None) => best,
-        (None, Some(cost)) => Some(Step { cost, edge }),
-        (Some(step), Some(cost)) => {
-            if cost.at_most(step.cost) {
-                best
-            } else {
-                Some(Step { cost, edge })
-            }
-        }
-    }
+    costlier(
+        best.map(|step| step.cost),
+        offered,
+        best,
+        offered.map(|cost| Step { cost, edge }),
+    )
 }
 
 // The costliest walk on from a node, once the entries of the later nodes are known.

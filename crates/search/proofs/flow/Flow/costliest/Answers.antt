@@ -12,8 +12,8 @@ loop-round-preserved g c =
     let i = c.loop-round.round in
     elim c.if-is_useful.branch [
       | then-is_useful w ↦
-          subst (AreRounds laws value f c.args.pass c.args.ending (i + 1)) (sym (w.best-is ∙ w.costlier_pass-best.ensures))
-          (rounds_more laws value f c.args.pass c.args.ending i c.loop-round.best w.round_best.result w.if-is_useful.ensures w.round_best.ensures c.loop-round.invariant)
+          subst (AreRounds laws value f c.args.pass c.args.ending (i + 1)) (sym (w.best-is ∙ w.costlier-best.ensures))
+          (rounds_more laws value f c.args.pass c.args.ending i c.loop-round.best w.round_best-found.result w.if-is_useful.ensures w.round_best-found.ensures c.loop-round.invariant)
       | else-is_useful w ↦
           subst (AreRounds laws value f c.args.pass c.args.ending (i + 1)) (sym w.best-is)
           (rounds_skip laws value f c.args.pass c.args.ending i c.loop-round.best w.if-is_useful.ensures c.loop-round.invariant)
