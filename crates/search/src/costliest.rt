@@ -8,7 +8,7 @@ use crate::ending::Ending;
 use crate::flow::Flow;
 use crate::follow::follow;
 use crate::found::Costliest;
-use crate::table::{entry_at, fill};
+use crate::table::{Round, entry_at};
 use crate::usable::{is_useful, usable_edges};
 use crate::values::EdgeValues;
 use model::cost::Cost;
@@ -26,19 +26,22 @@ fn round_best<C: Cost, V: EdgeValues<C>>(
     requires { 32 ≤ length table.old }
     ensures { IsRoundBest C.measure (V.EdgeValues.values values.now) (edges_of flow.now) (facts_of flow.now) pass ending round result }
 {
+    let none = Costliest {
+        cost: None,
+        way: Row::new(0),
+    };
     if flow.nodes == 0 {
-        return Costliest {
-            cost: None,
-            way: Row::new(0),
-        };
+        return none;
     }
-    let usable = usable_edges(flow, pass, round);
-    let choices = fill(flow, values, &usable, ending, table);
+    let search = Round {
+        flow,
+        values,
+        usable: usable_edges(flow, pass, round),
+        ending,
+    };
+    let choices = search.fill(table);
     match entry_at(table, &choices, 0) {
-        None => Costliest {
-            cost: None,
-            way: Row::new(0),
-        },
+        None => none,
         Some(cost) => Costliest {
             cost: Some(cost),
             way: follow(flow, &choices),

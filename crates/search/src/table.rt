@@ -15,16 +15,13 @@ use crate::values::EdgeValues;
 use model::cost::Cost;
 use model::graph::Target;
 
-// The value of an edge, if it is usable.
-fn value_of<C: Cost, V: EdgeValues<C>>(values: &V, usable: &[bool; 96], edge: usize) -> Option<C>
-    requires { edge < 96 }
-    ensures { result ≡ masked (V.EdgeValues.values values.now) usable.now edge }
-{
-    if usable[edge] {
-        values.value(edge)
-    } else {
-        None
-    }
+// What a round searches: the edges that are left, what they cost, and how the pass ends.
+#[derive(Drop)]
+pub struct Round<'a, V> {
+    pub flow: &'a Flow,
+    pub values: &'a V,
+    pub usable: [bool; 96],
+    pub ending: Ending,
 }
 
 // The entry of a node: what the costliest walk on from it costs.
@@ -70,55 +67,67 @@ fn costlier_of<C: Cost>(best: Option<Step<C>>, offered: Option<C>, edge: u8) -> 
     )
 }
 
-// The costliest walk on from a node, once the entries of the later nodes are known.
-fn best_from<C: Cost, V: EdgeValues<C>>(
-    flow: &Flow,
-    values: &V,
-    usable: &[bool; 96],
-    ending: Ending,
-    node: usize,
-    table: &[C],
-    choices: &[Option<u8>; 32],
-) -> Option<Step<C>>
-    requires room { 32 ≤ length table.now }
-    requires low { node < 32 }
-    requires above { (v : ℕ) → node < v → v < flow.now.nodes → IsBest C.measure (TailCost C.measure (masked (V.EdgeValues.values values.now) usable.now) (edges_of flow.now) (stop ending) (To v)) (entry table.now choices.now v) }
-    ensures best { IsBest C.measure (TailCost C.measure (masked (V.EdgeValues.values values.now) usable.now) (edges_of flow.now) (stop ending) (To node)) (cost_of_lem result) }
-    ensures linked { OnSome (IsStep C.measure (masked (V.EdgeValues.values values.now) usable.now) (edges_of flow.now) ending table.now choices.now node) result }
-{
-    let edges = flow.edges.as_slice();
-    let mut best = None;
-    let mut exit = flow.exits.first[node];
-    while let Some(e) = exit {
-        let edge = e as usize;
-        let to = edges[edge].to;
-        let value = value_of(values, usable, edge);
-        best = costlier_of(best, offer_of(value, to, ending, table, choices), e);
-        exit = flow.exits.next[edge];
-    }
-    best
-}
-
-// Fills the table and gives the first edge of the costliest walk on from each node.
-pub fn fill<C: Cost, V: EdgeValues<C>>(
-    flow: &Flow,
-    values: &V,
-    usable: &[bool; 96],
-    ending: Ending,
-    table: &mut [C],
-) -> [Option<u8>; 32]
-    requires { 32 ≤ length table.old }
-    ensures { (k : ℕ) → k < flow.now.nodes → IsEntry C.measure (masked (V.EdgeValues.values values.now) usable.now) (edges_of flow.now) ending table.new result k }
-{
-    let mut choices = [None; 32];
-    for k in (0..flow.nodes).rev() {
-        match best_from(flow, values, usable, ending, k, table, &choices) {
-            None => choices[k] = None,
-            Some(step) => {
-                table[k] = step.cost;
-                choices[k] = Some(step.edge);
-            }
+impl<'a, V> Round<'a, V> {
+    // The value of an edge, if it is left.
+    fn value<C: Cost>(&self, edge: usize) -> Option<C>
+    where
+        V: EdgeValues<C>,
+        requires { edge < 96 }
+        ensures { result ≡ masked (V.EdgeValues.values self.now.values.now) self.now.usable edge }
+    {
+        if self.usable[edge] {
+            self.values.value(edge)
+        } else {
+            None
         }
     }
-    choices
+
+    // The costliest walk on from a node, once the entries of the later nodes are known.
+    fn best_from<C: Cost>(
+        &self,
+        node: usize,
+        table: &[C],
+        choices: &[Option<u8>; 32],
+    ) -> Option<Step<C>>
+    where
+        V: EdgeValues<C>,
+        requires room { 32 ≤ length table.now }
+        requires low { node < 32 }
+        requires above { (v : ℕ) → node < v → v < self.now.flow.now.nodes → IsBest C.measure (TailCost C.measure (masked (V.EdgeValues.values self.now.values.now) self.now.usable) (edges_of self.now.flow.now) (stop self.now.ending) (To v)) (entry table.now choices.now v) }
+        ensures best { IsBest C.measure (TailCost C.measure (masked (V.EdgeValues.values self.now.values.now) self.now.usable) (edges_of self.now.flow.now) (stop self.now.ending) (To node)) (cost_of_lem result) }
+        ensures linked { OnSome (IsStep C.measure (masked (V.EdgeValues.values self.now.values.now) self.now.usable) (edges_of self.now.flow.now) self.now.ending table.now choices.now node) result }
+    {
+        let flow = self.flow;
+        let edges = flow.edges.as_slice();
+        let mut best = None;
+        let mut exit = flow.exits.first[node];
+        while let Some(e) = exit {
+            let edge = e as usize;
+            let value = self.value(edge);
+            let offered = offer_of(value, edges[edge].to, self.ending, table, choices);
+            best = costlier_of(best, offered, e);
+            exit = flow.exits.next[edge];
+        }
+        best
+    }
+
+    // Fills the table and gives the first edge of the costliest walk on from each node.
+    pub fn fill<C: Cost>(&self, table: &mut [C]) -> [Option<u8>; 32]
+    where
+        V: EdgeValues<C>,
+        requires { 32 ≤ length table.old }
+        ensures { (k : ℕ) → k < self.now.flow.now.nodes → IsEntry C.measure (masked (V.EdgeValues.values self.now.values.now) self.now.usable) (edges_of self.now.flow.now) self.now.ending table.new result k }
+    {
+        let mut choices = [None; 32];
+        for k in (0..self.flow.nodes).rev() {
+            match self.best_from(k, table, &choices) {
+                None => choices[k] = None,
+                Some(step) => {
+                    table[k] = step.cost;
+                    choices[k] = Some(step.edge);
+                }
+            }
+        }
+        choices
+    }
 }
