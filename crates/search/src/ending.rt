@@ -10,12 +10,12 @@ pub enum Ending {
     Leave,
 }
 
-impl Ending {
-    // Where the last edge of such a pass leads.
-    pub fn target(self) -> Target
-        ensures { result ≡ stop self }
-    {
-        match self {
+// Where the last edge of such a pass leads.
+impl From<Ending> for Target {
+    ghost from_gives = { λ ending target. target ≡ stop ending };
+
+    fn from(ending: Ending) -> Target {
+        match ending {
             Ending::Again => Target::Again,
             Ending::Leave => Target::Leave,
         }

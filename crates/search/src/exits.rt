@@ -6,7 +6,7 @@ ghost use Rattle.search.specs.Exits.{AreFirsts, AreNexts};
 
 use model::graph::Edge;
 
-// The first edge out of each node, and of each edge the next one with the same start.
+// Chains by number in fixed arrays, since nothing is allocated: the first edge out of each node, and of each edge the next one with the same start.
 #[derive(Clone, Copy)]
 pub struct Exits {
     pub first: [Option<u8>; 32],
@@ -21,6 +21,8 @@ pub fn exits_of(edges: &[Edge]) -> Exits
 {
     let mut first = [None; 32];
     let mut next = [None; 96];
+    // by its number, which is what is kept; tried: the loop over `edges.iter().enumerate().rev()` knows the list of what
+    // came, not the number, and its proof did not close
     for e in (0..edges.len()).rev() {
         let from = edges[e].from as usize;
         next[e] = first[from];

@@ -17,7 +17,7 @@ pub fn power_of<C: Cost>(cost: C, times: u32) -> C
             sum = sum.join(square);
         }
         square = square.join(square);
-        left = left / 2;
+        left /= 2;
     }
     sum
 }

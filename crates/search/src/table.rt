@@ -1,4 +1,6 @@
-// The table over the nodes, filled from the highest node down.
+// The table over the nodes, filled from the highest node down. The costs stand in the caller's table, which holds costs
+// alone, so the edges chosen stand in an array beside it. That the table has 32 places is asked of each function: tried:
+// an array of 32 costs behind a reference owes, in generic code, that its size is below 2^63.
 ghost use Rattle.std.specs.Prelude.{◌≡◌, ℕ, ◌+◌, ◌<◌, ◌≤◌, length, None};
 ghost use Rattle.model.specs.declared.graph.Target.TheVariants.{To};
 ghost use Rattle.model.specs.Best.{IsBest};
@@ -44,14 +46,13 @@ fn offer_of<C: Cost>(
     ensures { result ≡ offer C.measure value to ending table.now choices.now }
 {
     let cost = value?;
-    match (to, ending) {
-        (Target::To(v), _) => {
+    match to {
+        Target::To(v) => {
             let rest = entry_at(table, choices, v as usize)?;
             Some(cost.join(rest))
         }
-        (Target::Again, Ending::Again) => Some(cost),
-        (Target::Leave, Ending::Leave) => Some(cost),
-        _ => None,
+        end if end == Target::from(ending) => Some(cost),
+        Target::Again | Target::Leave => None,
     }
 }
 

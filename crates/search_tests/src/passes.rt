@@ -14,13 +14,8 @@ use std::fmt::Debug;
 use std::test::Fail;
 
 fn check_way(way: Way, expected: &[u8]) -> Result<(), Fail> {
-    if way.len() != expected.len() {
-        return Err(Fail::new("a way of another length"));
-    }
-    for i in 0..expected.len() {
-        if way.edge(i) != Some(expected[i]) {
-            return Err(Fail::new(format_args!("another edge number {i}")));
-        }
+    if way.as_slice() != expected {
+        return Err(Fail::new("another way"));
     }
     Ok(())
 }

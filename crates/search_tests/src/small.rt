@@ -16,21 +16,14 @@ pub struct Values {
 pub fn cost_of<C: Cost>(item: Option<(u32, u16)>) -> Option<C>
     ensures { result ≡ cost_of_lem C.measure item }
 {
-    match item {
-        None => None,
-        Some((weight, stack)) => Some(C::of(weight, stack)),
-    }
+    item.map(|(weight, stack)| C::of(weight, stack))
 }
 
 impl<C: Cost> EdgeValues<C> for Values {
     ghost values = { λ v e. cost_at C.measure v.items e };
 
     fn value(&self, edge: usize) -> Option<C> {
-        if edge < 8 {
-            cost_of(self.items[edge])
-        } else {
-            None
-        }
+        cost_of(*self.items.get(edge)?)
     }
 }
 
@@ -47,22 +40,17 @@ pub(crate) fn edge(from: u8, to: Target, effect: i32) -> Edge {
 
 // The weight and the stack of an edge: the time of its block and its effect, and the stack of the block.
 fn weighed(blocks: &[(u32, u16)], edge: Edge) -> Option<(u32, u16)> {
-    let start = edge.from as usize;
-    if start < blocks.len() {
-        let (time, stack) = blocks[start];
-        Some((time.saturating_add_signed(edge.effect), stack))
-    } else {
-        None
-    }
+    let (time, stack) = *blocks.get(edge.from as usize)?;
+    Some((time.saturating_add_signed(edge.effect), stack))
 }
 
 impl Small<'_> {
     // The values of its edges, but for one edge that has none.
     pub(crate) fn values(self, without: usize) -> Values {
         let mut items = [None; 8];
-        for e in 0..8 {
-            if e < self.edges.len() && e != without {
-                items[e] = weighed(self.blocks, self.edges[e]);
+        for (e, (item, edge)) in items.iter_mut().zip(self.edges).enumerate() {
+            if e != without {
+                *item = weighed(self.blocks, *edge);
             }
         }
         Values { items }
