@@ -1,4 +1,3 @@
-pub mod Bounds
 pub mod Copies
 pub mod Ranges
 pub mod Values

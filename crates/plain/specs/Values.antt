@@ -1,5 +1,5 @@
 -- The values of the edges of a scope, by the bounds of the scopes that have one.
-use Rattle.std.specs.Prelude.{◌≡◌, ℕ, ◌-◌, ◌^◌, ◌<◌, min, Bool, false, List, pos, ◌+ℤ◌, Some, Option, slice_index_or}
+use Rattle.std.specs.Prelude.{◌≡◌, ℕ, suc, ◌-◌, ◌^◌, ◌<◌, min, Bool, false, List, pos, ◌+ℤ◌, Some, None, Option, slice_index_or}
 use Rattle.std.specs.List.{slice_get}
 use Rattle.model.specs.declared.graph.Edge.{Edge}
 use Rattle.model.specs.declared.graph.Node.{Node}
@@ -13,6 +13,11 @@ use Rattle.search.specs.Walks.{gate}
 -- the bound of a scope, where it is worked out
 abbrev pub bound_at : {C : Type 0} → List C → List Bool → ℕ → Option C
 bound_at bounds solved t = gate (slice_index_or solved t false) (slice_get bounds t)
+
+-- the number of the called scope plus 1, or 0 where none is called, as a line of the trail shows it
+abbrev pub shown_call : Option ℕ → ℕ
+shown_call None = 0
+shown_call (Some t) = suc t
 
 -- the greatest weight that has a cost
 abbrev pub heaviest : ℕ

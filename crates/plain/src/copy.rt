@@ -1,69 +1,30 @@
 // Copying a scope out of its graph: each of its items is asked for once.
-ghost use Rattle.std.specs.Prelude.{◌≡◌, ℕ, ◌≤◌, length, Some};
-ghost use Rattle.std.specs.List.{slice_get};
+ghost use Rattle.std.specs.Prelude.{◌≡◌, ◌<◌, [], length, Some, MatchOption};
+ghost use Rattle.row.specs.Rows.{items_of};
 ghost use Rattle.model.specs.Graph.{Scope};
-ghost use Rattle.search.specs.Flows.{Prepared};
-ghost use Rattle.plain.specs.Copies.{Taken, NodesCopied, Copied};
+ghost use Rattle.plain.specs.Copies.{Copied};
 
-use crate::listing::{Edges, Facts, Listing, Nodes};
+use crate::listing::Listing;
 use crate::plain_scope::PlainScope;
-use crate::rows::NodeRow;
 use model::graph::{Constraint, Edge, Fact, Node, Target};
+use model::lists::{Edges, Facts, Nodes};
 use model::scope_graph::ScopeGraph;
+use row::row::Row;
 use search::flow::Flow;
 
-// The first items of a list, at the front of a table.
-fn copy_items<G: ScopeGraph, L: Listing<G>>(
-    list: &L,
+// The items of a list go into an empty row; none where they are too many.
+fn fill<G: ScopeGraph, L: Listing<G>, const N: usize>(
+    row: &mut Row<L::Item, N>,
     graph: &G,
-    table: &mut [L::Item],
-    count: usize,
-)
-    requires { count ≤ length table.old }
-    ensures { Taken (L.Listing.asked list.now graph.now) count table.new }
+    list: &L,
+) -> Option<()>
+    requires { items_of row.old ≡ [] }
+    ensures { (s : Scope) → L.Listing.scope list.now graph.now ≡ Some s → MatchOption result (N < length (L.Listing.list s)) (λ u. items_of row.new ≡ L.Listing.list s) }
 {
-    for i in 0..count {
-        if let Some(item) = list.get(graph, i) {
-            table[i] = item;
-        }
+    for i in 0..list.count(graph)? {
+        row.push(list.get(graph, i)?).ok()?;
     }
-}
-
-// The nodes of a scope; none where there are too many.
-fn copy_nodes<G: ScopeGraph>(graph: &G, scope: usize) -> Option<NodeRow>
-    ensures { (s : Scope) → slice_get (G.ScopeGraph.graph graph.now) scope ≡ Some s → NodesCopied s.nodes result }
-{
-    let len = graph.nodes(scope)?;
-    if len > 32 {
-        return None;
-    }
-    let mut items = [Node::Call { scope: 0 }; 32];
-    copy_items(&Nodes(scope), graph, &mut items, len);
-    Some(NodeRow { items, len })
-}
-
-// The edges and facts of a scope with so many nodes; none where they pass the limits or an edge does not lead forward.
-fn copy_flow<G: ScopeGraph>(graph: &G, scope: usize, nodes: usize) -> Option<Flow>
-    ensures { (s : Scope) → slice_get (G.ScopeGraph.graph graph.now) scope ≡ Some s → Prepared nodes s.edges s.facts result }
-{
-    let edges = graph.edges(scope)?;
-    let facts = graph.facts(scope)?;
-    if edges > 96 || facts > 4 {
-        return None;
-    }
-    let mut edge_items = [Edge {
-        from: 0,
-        to: Target::Leave,
-        effect: 0,
-    }; 96];
-    copy_items(&Edges(scope), graph, &mut edge_items, edges);
-    let mut fact_items = [Fact {
-        constraint: Constraint::Bar(0),
-        first: 0,
-        last: 0,
-    }; 4];
-    copy_items(&Facts(scope), graph, &mut fact_items, facts);
-    Flow::new(nodes, &edge_items[0..edges], &fact_items[0..facts])
+    Some(())
 }
 
 // The scope of this number; none where it is not there, passes the limits, or has an edge that does not lead forward.
@@ -71,8 +32,21 @@ pub fn copy_scope<G: ScopeGraph>(graph: &G, scope: usize) -> Option<PlainScope>
     ensures { Copied (G.ScopeGraph.graph graph.now) scope result }
 {
     let (least, most) = graph.passes(scope)?;
-    let nodes = copy_nodes(graph, scope)?;
-    let flow = copy_flow(graph, scope, nodes.len)?;
+    let mut nodes = Row::<Node, 32>::new(Node::Call { scope: 0 });
+    fill(&mut nodes, graph, &Nodes(scope))?;
+    let mut edges = Row::<Edge, 96>::new(Edge {
+        from: 0,
+        to: Target::Leave,
+        effect: 0,
+    });
+    fill(&mut edges, graph, &Edges(scope))?;
+    let mut facts = Row::<Fact, 4>::new(Fact {
+        constraint: Constraint::Bar(0),
+        first: 0,
+        last: 0,
+    });
+    fill(&mut facts, graph, &Facts(scope))?;
+    let flow = Flow::new(nodes.len(), edges.as_slice(), facts.as_slice())?;
     Some(PlainScope {
         least,
         most,

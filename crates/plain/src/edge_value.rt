@@ -1,12 +1,10 @@
 // What the edges of a scope cost, once the scopes that it calls are worked out.
-ghost use Rattle.std.specs.Prelude.{◌≡◌, min, false, Some, slice_index_or};
+ghost use Rattle.std.specs.Prelude.{◌≡◌, min, Some};
 ghost use Rattle.model.specs.Runs.{nonneg, weight};
 ghost use Rattle.model.specs.Ways.{value_from_lem, edge_value_lem};
-ghost use Rattle.plain.specs.Bounds.{bounds_of};
 ghost use Rattle.plain.specs.Copies.{scope_of};
 ghost use Rattle.plain.specs.Values.{bound_at, heaviest, capped, KeptWeights};
 
-use crate::bounds::Bounds;
 use crate::plain_scope::PlainScope;
 use model::cost::Cost;
 use model::graph::{Edge, Node};
@@ -16,13 +14,7 @@ use search::values::EdgeValues;
 fn cycles(sum: i64) -> u32
     ensures { result ≡ min (nonneg sum) heaviest }
 {
-    if sum < 0 {
-        0
-    } else if sum > 4_294_967_295 {
-        4_294_967_295
-    } else {
-        sum as u32
-    }
+    u32::try_from(sum.max(0)).unwrap_or(u32::MAX)
 }
 
 // The weight of an edge with this effect out of a node.
@@ -35,53 +27,48 @@ fn weight_of(node: Node, effect: i32) -> u32
     }
 }
 
-// Has the scope a bound?
-fn is_solved(solved: &[bool; 16], scope: usize) -> bool
-    ensures { result ≡ slice_index_or solved.now scope false }
-{
-    if scope < 16 { solved[scope] } else { false }
+// The values of the edges of a scope. The bounds of the scopes stand by their numbers in a lent table of costs, so
+// that which of them are worked out stands beside them.
+#[derive(Drop)]
+pub struct ScopeValues<'a, C> {
+    pub scope: &'a PlainScope,
+    pub bounds: &'a [C],
+    pub solved: &'a [bool; 16],
 }
 
-// The bound of a scope, where it is worked out.
-fn bound_of<C: Cost>(bounds: &Bounds<C>, solved: &[bool; 16], scope: usize) -> Option<C>
-    ensures { result ≡ bound_at (bounds_of bounds.now) solved.now scope }
-{
-    if is_solved(solved, scope) {
-        bounds.get(scope)
-    } else {
-        None
+impl<'a, C: Cost> ScopeValues<'a, C> {
+    // The bound of a scope, where it is worked out.
+    fn bound_of(&self, scope: u8) -> Option<C>
+        ensures { result ≡ bound_at self.now.bounds.now self.now.solved.now scope }
+    {
+        let ScopeValues { bounds, solved, .. } = *self;
+        let scope = scope as usize;
+        if *solved.get(scope)? {
+            bounds.get(scope).copied()
+        } else {
+            None
+        }
     }
-}
 
-// The value of an edge with this effect out of a node: of a call, the bound of the called scope and then the edge.
-fn value_from<C: Cost>(bounds: &Bounds<C>, solved: &[bool; 16], edge: Edge, node: Node) -> Option<C>
-    ensures { result ≡ value_from_lem (capped C.measure) (bound_at (bounds_of bounds.now) solved.now) edge (Some node) }
-{
-    let weight = weight_of(node, edge.effect);
-    match node {
-        Node::Block { stack, .. } => Some(C::of(weight, stack)),
-        Node::Call { scope } => {
-            let called = bound_of(bounds, solved, scope as usize)?;
-            Some(called.join(C::of(weight, 0)))
+    // The value of an edge out of a node: of a call, the bound of the called scope and then the edge.
+    fn value_from(&self, edge: Edge, node: Node) -> Option<C>
+        ensures { result ≡ value_from_lem (capped C.measure) (bound_at self.now.bounds.now self.now.solved.now) edge (Some node) }
+    {
+        let weight = weight_of(node, edge.effect);
+        match node {
+            Node::Block { stack, .. } => Some(C::of(weight, stack)),
+            Node::Call { scope } => Some(self.bound_of(scope)?.join(C::of(weight, 0))),
         }
     }
 }
 
-// The values of the edges of a scope: the bounds of the scopes stand by their numbers, where they are worked out.
-#[derive(Drop)]
-pub struct ScopeValues<'a, C> {
-    pub scope: &'a PlainScope,
-    pub bounds: &'a Bounds<C>,
-    pub solved: &'a [bool; 16],
-}
-
 impl<'a, C: Cost> EdgeValues<C> for ScopeValues<'a, C> {
-    ghost values = { λ v. edge_value_lem (capped C.measure) (bound_at (bounds_of v.bounds.now) v.solved.now) (scope_of v.scope.now) };
+    ghost values = { λ v. edge_value_lem (capped C.measure) (bound_at v.bounds.now v.solved.now) (scope_of v.scope.now) };
 
     fn value(&self, edge: usize) -> Option<C> {
-        let edge = self.scope.flow.edge(edge)?;
+        let edge = self.scope.flow.edges.get(edge)?;
         let node = self.scope.node(edge.from as usize)?;
-        value_from(self.bounds, self.solved, edge, node)
+        self.value_from(edge, node)
     }
 }
 

@@ -1,11 +1,9 @@
 // A scope copied out of its graph, once, into plain arrays.
 #![tactic(auto)]
 
-pub mod bounds;
 pub mod called;
 pub mod copy;
 pub mod edge_value;
 mod listing;
 pub mod plain_scope;
 pub mod range;
-mod rows;

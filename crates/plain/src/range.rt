@@ -25,10 +25,8 @@ impl PlainScope {
         ensures { RangeEnds (scope_of self.now) first result }
     {
         let mut end = self.most;
-        for i in 0..self.flow.facts() {
-            if let Some(fact) = self.flow.fact(i) {
-                end = cut(fact, first, end);
-            }
+        for fact in self.flow.facts.as_slice() {
+            end = cut(*fact, first, end);
         }
         end
     }

@@ -5,5 +5,5 @@ use Rattle.plain.specs.Ranges.{Proper}
 use Rattle.plain.proofs.plain_scope.PlainScope.range_end.Given as goal
 
 -- the first facts are looked at
-abbrev pub invariant-loop-i : goal.invariant-loop-i
-invariant-loop-i l = l.first ≤ l.self.most → Proper (facts_of l.self.flow) → IsCut (take l.i (facts_of l.self.flow)) l.first l.self.most l.end
+abbrev pub invariant-loop-fact : goal.invariant-loop-fact
+invariant-loop-fact l = l.first ≤ l.self.most → Proper (facts_of l.self.flow) → IsCut (take l.fact-index (facts_of l.self.flow)) l.first l.self.most l.end
