@@ -1,5 +1,5 @@
 -- A bound, or that there is no run, by a test over all runs of a small graph.
-use Rattle.std.proofs.Common.{◌≡◌, Bool, true, false, ◌&&◌, T, List, [], ◌∷◌, length, sym, refl}
+use Rattle.std.proofs.Common.{◌≡◌, ℕ, Bool, true, false, ◌&&◌, T, List, [], ◌∷◌, length, Some, None, Option, sym, refl}
 use Rattle.std.specs.List.{AllByRecursion}
 use Rattle.std.proofs.lemmas.Bool.{true≢false, and_parts}
 use Rattle.model.specs.Graph.{Scope}
@@ -7,8 +7,6 @@ use Rattle.model.specs.Measures.{Measure, Laws}
 use Rattle.model.specs.Runs.{Run, IsBound, run_cost}
 use Rattle.measures.specs.Meanings.{cycles, stack, that_many}
 use Rattle.measures.specs.Kept.{cycles_laws, stack_laws}
-use Rattle.examples.specs.declared.claims.Claim.{Claim}
-use Rattle.examples.specs.declared.claims.Claim.TheVariants.{Bounds, NoRun}
 use Rattle.examples.specs.Graphs.{Right, Example, EveryExample, examples}
 use Rattle.examples.proofs.Sets.{In, each, each_in, some, some_in}
 use Rattle.examples.proofs.Listing.{runs, covered, runs_list}
@@ -50,15 +48,15 @@ none_in [] e r h = h
 none_in (q ∷ rs) e r h = true≢false (sym e)
 
 -- the test of a claim
-abbrev right : List Scope → Claim → Bool
-right g (Bounds c k) = bound_test cycles g (that_many c) && bound_test stack g (record { bytes = k })
-right g NoRun = all_covered g && none (all_runs g)
+abbrev right : List Scope → Option (ℕ × ℕ) → Bool
+right g (Some (c, k)) = bound_test cycles g (that_many c) && bound_test stack g (record { bytes = k })
+right g None = all_covered g && none (all_runs g)
 
-right_by_test : (g : List Scope) (c : Claim) → right g c ≡ true → Right g c
-right_by_test g (Bounds c k) e =
+right_by_test : (g : List Scope) (c : Option (ℕ × ℕ)) → right g c ≡ true → Right g c
+right_by_test g (Some (c, k)) e =
     let t = and_parts (bound_test cycles g (that_many c)) (bound_test stack g (record { bytes = k })) e in
     (bound_by_test cycles cycles_laws g (that_many c) t.0, bound_by_test stack stack_laws g (record { bytes = k }) t.1)
-right_by_test g NoRun e =
+right_by_test g None e =
     let t = and_parts (all_covered g) (none (all_runs g)) e in
     λ r h. none_in (all_runs g) t.1 r ((runs_list g (length g) 0 t.0).complete r h)
 

@@ -1,5 +1,5 @@
 -- The worked graphs, and what is claimed of each.
-use Rattle.std.specs.Prelude.{ℕ, List, [], ◌∷◌, ℤ, pos, neg_ℤ}
+use Rattle.std.specs.Prelude.{ℕ, List, [], ◌∷◌, ℤ, pos, neg_ℤ, Some, None, Option}
 use Rattle.std.specs.List.{AllByRecursion}
 use Rattle.model.specs.declared.graph.Node.TheVariants.{Block, Call}
 use Rattle.model.specs.declared.graph.Target.{Target}
@@ -11,8 +11,6 @@ use Rattle.model.specs.declared.graph.Fact.{Fact}
 use Rattle.model.specs.Graph.{Scope}
 use Rattle.model.specs.Runs.{Run, IsRun, IsBound}
 use Rattle.measures.specs.Meanings.{cycles, stack, that_many}
-use Rattle.examples.specs.declared.claims.Claim.{Claim}
-use Rattle.examples.specs.declared.claims.Claim.TheVariants.{Bounds, NoRun}
 
 -- effects
 abbrev plus : ℕ → ℤ
@@ -86,32 +84,32 @@ empty = record { least = 1; most = 1; nodes = []; edges = []; facts = [] }
 
 pub record Example : Type 0 where
   pub graph : List Scope
-  pub claim : Claim
+  pub claim : Option (ℕ × ℕ)
 
-abbrev on : List Scope → Claim → Example
+abbrev on : List Scope → Option (ℕ × ℕ) → Example
 on graph claim = record { graph = graph; claim = claim }
 
 abbrev pub examples : List Example
 examples =
-    on (branching 1 4 [] ∷ []) (Bounds 53 40)
-    ∷ on (branching 1 1 [] ∷ []) (Bounds 14 40)
-    ∷ on (branching 1 4 (fact (Bar 1) 1 2 ∷ []) ∷ []) (Bounds 45 40)
-    ∷ on (branching 1 4 (fact (Must 2) 1 4 ∷ []) ∷ []) (Bounds 37 16)
-    ∷ on (branching 1 4 (fact (Pair 1 3) 4 4 ∷ []) ∷ []) (Bounds 49 40)
-    ∷ on (branching 1 4 (fact (Bar 3) 2 4 ∷ []) ∷ []) (Bounds 14 40)
-    ∷ on (branching 2 4 (fact (Bar 3) 2 4 ∷ []) ∷ []) NoRun
-    ∷ on (early_exit ∷ []) (Bounds 102 0)
-    ∷ on (detour ∷ []) (Bounds 22 0)
-    ∷ on (caller ∷ branching 1 4 [] ∷ []) (Bounds 58 40)
-    ∷ on (two_calls ∷ early_exit ∷ []) (Bounds 204 0)
-    ∷ on (free ∷ []) (Bounds 0 0)
-    ∷ on (empty ∷ []) NoRun
+    on (branching 1 4 [] ∷ []) (Some (53, 40))
+    ∷ on (branching 1 1 [] ∷ []) (Some (14, 40))
+    ∷ on (branching 1 4 (fact (Bar 1) 1 2 ∷ []) ∷ []) (Some (45, 40))
+    ∷ on (branching 1 4 (fact (Must 2) 1 4 ∷ []) ∷ []) (Some (37, 16))
+    ∷ on (branching 1 4 (fact (Pair 1 3) 4 4 ∷ []) ∷ []) (Some (49, 40))
+    ∷ on (branching 1 4 (fact (Bar 3) 2 4 ∷ []) ∷ []) (Some (14, 40))
+    ∷ on (branching 2 4 (fact (Bar 3) 2 4 ∷ []) ∷ []) None
+    ∷ on (early_exit ∷ []) (Some (102, 0))
+    ∷ on (detour ∷ []) (Some (22, 0))
+    ∷ on (caller ∷ branching 1 4 [] ∷ []) (Some (58, 40))
+    ∷ on (two_calls ∷ early_exit ∷ []) (Some (204, 0))
+    ∷ on (free ∷ []) (Some (0, 0))
+    ∷ on (empty ∷ []) None
     ∷ []
 
 -- what a claim says of a graph: the bound in each measure, or that there is no run
-abbrev pub Right : List Scope → Claim → Type 0
-Right g (Bounds c k) = IsBound cycles g 0 (that_many c) × IsBound stack g 0 (record { bytes = k })
-Right g NoRun = (r : Run) → IsRun g 0 r → ⊥
+abbrev pub Right : List Scope → Option (ℕ × ℕ) → Type 0
+Right g (Some (c, k)) = IsBound cycles g 0 (that_many c) × IsBound stack g 0 (record { bytes = k })
+Right g None = (r : Run) → IsRun g 0 r → ⊥
 
 abbrev pub EveryExample : Type 0
 EveryExample = AllByRecursion (λ x. Right x.graph x.claim) examples

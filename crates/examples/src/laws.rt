@@ -4,15 +4,11 @@ ghost use Rattle.examples.specs.Order.{JoinedInOrder, BoundUnique};
 use model::cost::Cost;
 
 // The cost of a run is what its edges cost, joined one after the other in the order of the run.
-pub fn cost_in_order<C: Cost>() -> u8
+pub fn cost_in_order<C: Cost>()
     ensures { JoinedInOrder C.measure }
-{
-    0
-}
+{}
 
 // A scope has one bound at most.
-pub fn one_bound<C: Cost>() -> u8
+pub fn one_bound<C: Cost>()
     ensures { BoundUnique C.measure }
-{
-    0
-}
+{}

@@ -1,6 +1,5 @@
 // The groups of passes of a run: in each, all passes go the same way.
-ghost use Rattle.std.specs.Prelude.{◌≡◌, ◌≤◌, length};
-
+use row::row::Row;
 use search::way::Way;
 
 // Passes `first` to `last`.
@@ -11,14 +10,4 @@ pub struct PassGroup {
     pub way: Way,
 }
 
-// At most 10 groups.
-#[derive(Clone, Copy)]
-pub struct Groups {
-    items: [PassGroup; 10],
-    len: usize,
-    ghost wide: { length items ≡ 10 },
-    ghost short: { len ≤ 10 },
-}
-
-pub mod edits;
-pub mod reads;
+pub type Groups = Row<PassGroup, 10>;

@@ -62,12 +62,10 @@ pub fn write_way(trail: &mut [Line], at: usize, scope: &PlainScope, way: &Way) -
     ensures lines { trail.new ≡ written trail.old at (way_lines (scope_of scope.now) (way_edges way.now)) }
     ensures end { result ≡ at + length (way_edges way.now) }
 {
-    let mut n = 0;
-    while let Some(edge) = way.edge(n) {
-        trail[at + n] = edge_line(scope, edge);
-        n += 1;
+    for (n, edge) in way.as_slice().iter().enumerate() {
+        trail[at + n] = edge_line(scope, *edge);
     }
-    at + n
+    at + way.len()
 }
 
 // Writes the lines of a group from `at` on, and says where they end.
@@ -77,8 +75,7 @@ pub fn write_group(trail: &mut [Line], at: usize, scope: &PlainScope, group: &Pa
     ensures end { result ≡ at + length (group_lines (scope_of scope.now) (group_of group.now ∷ [])) }
 {
     trail[at] = group_line(group);
-    let way = group.way;
-    write_way(trail, at + 1, scope, &way)
+    write_way(trail, at + 1, scope, &group.way)
 }
 
 // Writes the lines of the groups from `at` on, and says where they end.
@@ -88,10 +85,8 @@ pub fn write_groups(trail: &mut [Line], at: usize, scope: &PlainScope, groups: &
     ensures end { result ≡ at + length (group_lines (scope_of scope.now) (groups_of groups.now)) }
 {
     let mut end = at;
-    let mut i = 0;
-    while let Some(group) = groups.get(i) {
-        end = write_group(trail, end, scope, &group);
-        i += 1;
+    for group in groups.as_slice() {
+        end = write_group(trail, end, scope, group);
     }
     end
 }
@@ -101,7 +96,5 @@ pub fn write_zeros(trail: &mut [Line], at: usize, end: usize)
     requires { (at ≤ end) × (end ≤ length trail.old) }
     ensures { trail.new ≡ written trail.old at (replicate (end - at) (line 0 0 0)) }
 {
-    for i in at..end {
-        trail[i] = zero_line();
-    }
+    trail[at..end].fill(zero_line());
 }

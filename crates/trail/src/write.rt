@@ -7,14 +7,14 @@ ghost use Rattle.trail.specs.Sections.{written};
 
 use crate::groups::Groups;
 use crate::lines::{head_line, write_groups, write_zeros};
-use model::trail::Line;
+use model::trail::{Line, SECTION};
 use plain::plain_scope::PlainScope;
 
 // Whether a table of so many lines has the section of this number.
 fn has_section(lines: usize, number: usize) -> bool
     ensures { result ≡ nat_le (size * (number + 1)) lines }
 {
-    number < lines / 331
+    number < lines / SECTION
 }
 
 // Where a section ends that begins at `at`.
@@ -22,7 +22,7 @@ fn section_end(at: usize) -> usize
     requires { at + size < 2 ^ 64 }
     ensures { result ≡ at + size }
 {
-    at + 331
+    at + SECTION
 }
 
 // Writes the section that begins at `at`.
@@ -48,7 +48,7 @@ pub fn write_section(
     ensures table { trail.new ≡ (if result then written trail.old (size * number) (padded (section_lines (scope_of scope.now) passes (groups_of groups.now))) else trail.old) }
 {
     if has_section(trail.len(), number) {
-        write_lines(trail, 331 * number, scope, passes, groups);
+        write_lines(trail, SECTION * number, scope, passes, groups);
         true
     } else {
         false
@@ -61,7 +61,7 @@ pub fn clear_section(trail: &mut [Line], number: usize) -> bool
     ensures table { trail.new ≡ (if result then written trail.old (size * number) (replicate size (line 0 0 0)) else trail.old) }
 {
     if has_section(trail.len(), number) {
-        let at = 331 * number;
+        let at = SECTION * number;
         write_zeros(trail, at, section_end(at));
         true
     } else {
