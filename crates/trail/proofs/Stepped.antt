@@ -3,6 +3,7 @@ use Rattle.std.proofs.Common.{◌≡◌, ℕ, zero, suc, ◌+◌, ◌-◌, ◌<�
 use lib.ListN.{length-replicate}
 use Rattle.std.proofs.lemmas.List.{append-nil, take_all, take-append-drop, replicate_more}
 use Rattle.std.specs.List.{slice_get}
+use Rattle.std.proofs.lemmas.Option.{slice_get_within}
 use Rattle.model.specs.declared.trail.Line.{Line}
 use Rattle.model.specs.Graph.{Scope}
 use Rattle.model.specs.Trail.{Group, line, called, way_lines, group_lines, padded, size}
@@ -10,16 +11,6 @@ use Rattle.model.proofs.Bests.{none_some, some_same}
 use Rattle.trail.specs.Sections.{written}
 use Rattle.trail.proofs.Lengths.{length_way, way_lines_more, group_lines_more}
 use Rattle.trail.proofs.Written.{written_one, written_more, written_next}
-
-pub nth_inside : {A : Type 0} (xs : List A) (i : ℕ) (x : A) → Some x ≡ slice_get xs i → i < length xs
-nth_inside [] i x h = absurd (none_some (sym h))
-nth_inside (y ∷ ys) zero x h = omega arith
-nth_inside (y ∷ ys) (suc i) x h = let r = nth_inside ys i x h in omega arith
-
-pub nth_outside : {A : Type 0} (xs : List A) (i : ℕ) → None ≡ slice_get xs i → length xs ≤ i
-nth_outside [] i h = omega arith
-nth_outside (y ∷ ys) zero h = absurd (none_some h)
-nth_outside (y ∷ ys) (suc i) h = let r = nth_outside ys i h in omega arith
 
 take_next : {A : Type 0} (xs : List A) (i : ℕ) (x : A) → Some x ≡ slice_get xs i → take (suc i) xs ≡ take i xs ++ (x ∷ [])
 take_next [] i x h = absurd (none_some (sym h))
@@ -35,7 +26,7 @@ pub way_step : (s : Scope) (old now : List Line) (at n : ℕ) (es : List ℕ) (e
     set now (at + n) x ≡ written old at (way_lines s (take (n + 1) es))
 way_step s old now at n es e x h l is w =
     let ls = way_lines s (take n es) in
-    let inside = nth_inside es n e h in
+    let inside = slice_get_within es n e (sym h) in
     let m : length ls ≡ n = length_way s (take n es) ∙ length-take n es ∙ omega arith in
     ap (λ t. set t (at + n) x) w
     ∙ ap (λ k. set (written old at ls) (at + k) x) (sym m)
@@ -43,22 +34,6 @@ way_step s old now at n es e x h l is w =
     ∙ ap (λ y. written old at (ls ++ (y ∷ []))) is
     ∙ ap (written old at) (sym (way_lines_more s (take n es) (e ∷ [])))
     ∙ ap (λ k. written old at (way_lines s k)) (sym (take_nth es n e h))
-
--- past the last, all are written
-all_taken : {A : Type 0} (xs : List A) (i : ℕ) → None ≡ slice_get xs i → take i xs ≡ xs
-all_taken xs i h = take_all i xs (nth_outside xs i h)
-
-pub way_done : (s : Scope) (old now : List Line) (at n : ℕ) (es : List ℕ) → None ≡ slice_get es n → now ≡ written old at (way_lines s (take n es)) → now ≡ written old at (way_lines s es)
-way_done s old now at n es h w = w ∙ ap (λ l. written old at (way_lines s l)) (all_taken es n h)
-
-pub way_end : (at n : ℕ) (es : List ℕ) → None ≡ slice_get es n → n ≤ length es → at + n ≡ at + length es
-way_end at n es h l = let r = nth_outside es n h in omega arith
-
-pub groups_done : (s : Scope) (old now : List Line) (at i : ℕ) (gs : List Group) → None ≡ slice_get gs i → now ≡ written old at (group_lines s (take i gs)) → now ≡ written old at (group_lines s gs)
-groups_done s old now at i gs h w = w ∙ ap (λ l. written old at (group_lines s l)) (all_taken gs i h)
-
-pub groups_end : (s : Scope) (at end i : ℕ) (gs : List Group) → None ≡ slice_get gs i → end ≡ at + length (group_lines s (take i gs)) → end ≡ at + length (group_lines s gs)
-groups_end s at end i gs h e = e ∙ ap (λ l. at + length (group_lines s l)) (all_taken gs i h)
 
 -- a line with others behind it
 pub line_then : (old : List Line) (at : ℕ) (x : Line) (ls : List Line) → at < length old → written (set old at x) (at + 1) ls ≡ written old at (x ∷ ls)
@@ -108,22 +83,6 @@ group_step s old now after at end gs i x h l e w f =
     ∙ ap (λ k. written (written old at ls) k (group_lines s (x ∷ []))) e
     ∙ written_more old at ls (group_lines s (x ∷ [])) l
     ∙ ap (written old at) (sym (group_next s gs i x h))
-
--- one more copy of a line
-pub copy_step : (old now : List Line) (at i : ℕ) (x y : Line) →
-    at ≤ i → i < length old → x ≡ y → now ≡ written old at (replicate (i - at) y) →
-    set now i x ≡ written old at (replicate (i + 1 - at) y)
-copy_step old now at i x y l h is w =
-    let ls = replicate (i - at) y in
-    let n = length-replicate (i - at) y in
-    let e : at + length ls ≡ i = omega arith in
-    let f : i - at + 1 ≡ i + 1 - at = omega arith in
-    ap (λ t. set t i x) w
-    ∙ ap (λ k. set (written old at ls) k x) (sym e)
-    ∙ written_next old at ls x (omega arith)
-    ∙ ap (λ z. written old at (ls ++ (z ∷ []))) is
-    ∙ ap (written old at) (replicate_more (i - at) y)
-    ∙ ap (λ k. written old at (replicate k y)) f
 
 -- the head, the lines of the groups, and zeros up to the end of the section
 pub section_made : (old front after : List Line) (at from end : ℕ) (x y : Line) (ls : List Line) →

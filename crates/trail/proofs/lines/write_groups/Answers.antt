@@ -1,43 +1,42 @@
-use Rattle.std.proofs.Common.{arith}
+use Rattle.std.proofs.Common.{◌≡◌, ◌+◌, length, sym, ap, ◌∙◌, arith}
+use Rattle.std.proofs.lemmas.List.{take_all}
+use Rattle.model.specs.Trail.{group_lines}
 use Rattle.plain.specs.Copies.{scope_of}
 use Rattle.trail.specs.Groups.{group_of, groups_of}
-use Rattle.trail.proofs.Held.{held_length}
+use Rattle.trail.specs.Sections.{written}
+use Rattle.trail.proofs.Held.{held_length, held_at}
 use Rattle.trail.proofs.Lengths.{held_short}
 use Rattle.trail.proofs.Written.{written_none}
-use Rattle.trail.proofs.Stepped.{nth_inside, group_fits, group_end, group_step, groups_done, groups_end}
+use Rattle.trail.proofs.Stepped.{group_fits, group_end, group_step}
 use Rattle.trail.proofs.lines.write_groups.Goals as goal
 
 pub loop-group-init : goal.loop-group-init
-loop-group-init c = (omega arith, omega arith, written_none c.args.trail.now c.args.at)
+loop-group-init c = (omega arith, written_none c.args.trail.now c.args.at)
 
 pub write_group-end-requires : goal.write_group-end-requires
 write_group-end-requires c =
     let s = scope_of c.args.scope.now in
-    let a = group_fits s (groups_of c.args.groups.now) c.loop-group.i (group_of c.in-Some.group) c.in-Some.ensures in
+    let a = group_fits s (groups_of c.args.groups.now) c.loop-group.group-index _ (held_at c.args.groups.now _ c.as_slice-group-items.ensures c.loop-group.group-index _ c.loop-group-test.true) in
     let b = held_short s c.args.groups.now in
-    omega (arith, c.loop-group.invariant.1, c.loop-group.auto.trail, c.requires)
-
-pub loop-group-smaller : goal.loop-group-smaller
-loop-group-smaller c = let n = nth_inside (groups_of c.args.groups.now) _ _ c.in-Some.ensures in omega arith
+    omega (arith, c.loop-group.invariant.0, c.loop-group.auto.trail, c.requires)
 
 pub loop-group-preserved : goal.loop-group-preserved
 loop-group-preserved c =
     let s = scope_of c.args.scope.now in
     let gs = groups_of c.args.groups.now in
-    let i = c.loop-group.i in
-    let x = group_of c.in-Some.group in
-    let inside = nth_inside gs i x c.in-Some.ensures in
-    let n = held_length c.args.groups.now in (
-      omega (arith, c.args.groups.now.short),
-      group_end s gs i x c.args.at c.loop-group.end _ c.in-Some.ensures c.loop-group.invariant.1 c.write_group-end.ensures.end,
-      group_step s c.args.trail.now c.loop-group.trail _ c.args.at c.loop-group.end gs i x c.in-Some.ensures (omega (arith, c.requires)) c.loop-group.invariant.1 c.loop-group.invariant.2 c.write_group-end.ensures.lines,
+    let i = c.loop-group.group-index in
+    let there = held_at c.args.groups.now _ c.as_slice-group-items.ensures i _ c.loop-group-test.true in (
+      group_end s gs i _ c.args.at c.loop-group.end _ there c.loop-group.invariant.0 c.write_group-end.ensures.end,
+      group_step s c.args.trail.now c.loop-group.trail _ c.args.at c.loop-group.end gs i _ there (omega (arith, c.requires)) c.loop-group.invariant.0 c.loop-group.invariant.1 c.write_group-end.ensures.lines,
     )
 
 pub returns : goal.returns
 returns c =
     let s = scope_of c.args.scope.now in
-    let gs = groups_of c.args.groups.now in
+    let n = held_length c.args.groups.now in
+    let m = ap length c.as_slice-group-items.ensures in
+    let all = take_all c.loop-group.group-index (groups_of c.args.groups.now) (omega (arith, c.loop-group-test.false)) in
     record {
-      lines = groups_done s c.args.trail.now _ c.args.at c.loop-group.i gs c.in_default.ensures c.loop-group.invariant.2;
-      end = groups_end s c.args.at _ c.loop-group.i gs c.in_default.ensures c.loop-group.invariant.1;
+      lines = c.loop-group.invariant.1 ∙ ap (λ l. written c.args.trail.now c.args.at (group_lines s l)) all;
+      end = c.loop-group.invariant.0 ∙ ap (λ l. c.args.at + length (group_lines s l)) all;
     }

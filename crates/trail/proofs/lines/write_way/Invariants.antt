@@ -1,4 +1,4 @@
-use Rattle.std.proofs.Common.{◌≡◌, ◌-◌, ◌≤◌, length, take}
+use Rattle.std.proofs.Common.{◌≡◌, take}
 use Rattle.model.specs.Trail.{way_lines}
 use Rattle.search.specs.Ways.{way_edges}
 use Rattle.plain.specs.Copies.{scope_of}
@@ -6,8 +6,5 @@ use Rattle.trail.specs.Sections.{written}
 use Rattle.trail.proofs.lines.write_way.Given as goal
 
 -- the lines of the first n edges are written
-abbrev pub invariant-loop-edge : goal.invariant-loop-edge
-invariant-loop-edge l = (l.n ≤ length (way_edges l.way)) × (l.trail ≡ written l.initial.trail l.at (way_lines (scope_of l.scope) (take l.n (way_edges l.way))))
-
-abbrev pub decreases-loop-edge : goal.decreases-loop-edge
-decreases-loop-edge l = length (way_edges l.way) - l.n
+abbrev pub invariant-loop-n : goal.invariant-loop-n
+invariant-loop-n l = l.trail ≡ written l.initial.trail l.at (way_lines (scope_of l.scope) (take l.n (way_edges l.way)))
