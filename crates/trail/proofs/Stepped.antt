@@ -1,7 +1,6 @@
 -- The lines written so far, one step on.
-use Rattle.std.proofs.Common.{◌≡◌, ℕ, zero, suc, ◌+◌, ◌-◌, ◌<◌, ◌≤◌, List, [], ◌∷◌, ◌++◌, length, take, drop, set, replicate, Some, None, sym, ap, ◌∙◌, add-one, arith, length-append, length-take}
-use lib.ListN.{length-replicate}
-use Rattle.std.proofs.lemmas.List.{append-nil, take_all, take-append-drop, replicate_more}
+use Rattle.std.proofs.Common.{◌≡◌, ℕ, zero, suc, ◌+◌, ◌-◌, ◌<◌, ◌≤◌, List, [], ◌∷◌, ◌++◌, length, take, drop, set, replicate, Some, sym, ap, ◌∙◌, add-one, arith, length-append, length-take}
+use Rattle.std.proofs.lemmas.List.{append-nil, take-append-drop}
 use Rattle.std.specs.List.{slice_get}
 use Rattle.std.proofs.lemmas.Option.{slice_get_within}
 use Rattle.model.specs.declared.trail.Line.{Line}

@@ -41,7 +41,7 @@ pub fn edge_line(scope: &PlainScope, edge: u8) -> Line
     Line {
         kind: 3,
         a: u16::from(edge),
-        b: scope.called(edge),
+        b: scope.called(edge).map_or(0, |called| u16::from(called) + 1),
     }
 }
 

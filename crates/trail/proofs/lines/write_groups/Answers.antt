@@ -1,4 +1,4 @@
-use Rattle.std.proofs.Common.{◌≡◌, ◌+◌, length, sym, ap, ◌∙◌, arith}
+use Rattle.std.proofs.Common.{◌+◌, length, ap, ◌∙◌, arith}
 use Rattle.std.proofs.lemmas.List.{take_all}
 use Rattle.model.specs.Trail.{group_lines}
 use Rattle.plain.specs.Copies.{scope_of}
@@ -16,7 +16,7 @@ loop-group-init c = (omega arith, written_none c.args.trail.now c.args.at)
 pub write_group-end-requires : goal.write_group-end-requires
 write_group-end-requires c =
     let s = scope_of c.args.scope.now in
-    let a = group_fits s (groups_of c.args.groups.now) c.loop-group.group-index _ (held_at c.args.groups.now _ c.as_slice-group-items.ensures c.loop-group.group-index _ c.loop-group-test.true) in
+    let a = group_fits s (groups_of c.args.groups.now) c.loop-group.group-index (group_of c.group-item.result) (held_at c.args.groups.now _ c.as_slice-group-items.ensures c.loop-group.group-index c.group-item.result c.loop-group-test.true c.group-item.is) in
     let b = held_short s c.args.groups.now in
     omega (arith, c.loop-group.invariant.0, c.loop-group.auto.trail, c.requires)
 
@@ -25,9 +25,10 @@ loop-group-preserved c =
     let s = scope_of c.args.scope.now in
     let gs = groups_of c.args.groups.now in
     let i = c.loop-group.group-index in
-    let there = held_at c.args.groups.now _ c.as_slice-group-items.ensures i _ c.loop-group-test.true in (
-      group_end s gs i _ c.args.at c.loop-group.end _ there c.loop-group.invariant.0 c.write_group-end.ensures.end,
-      group_step s c.args.trail.now c.loop-group.trail _ c.args.at c.loop-group.end gs i _ there (omega (arith, c.requires)) c.loop-group.invariant.0 c.loop-group.invariant.1 c.write_group-end.ensures.lines,
+    let x = group_of c.group-item.result in
+    let there = held_at c.args.groups.now _ c.as_slice-group-items.ensures i c.group-item.result c.loop-group-test.true c.group-item.is in (
+      group_end s gs i x c.args.at c.loop-group.end _ there c.loop-group.invariant.0 c.write_group-end.ensures.end,
+      group_step s c.args.trail.now c.loop-group.trail _ c.args.at c.loop-group.end gs i x there (omega (arith, c.requires)) c.loop-group.invariant.0 c.loop-group.invariant.1 c.write_group-end.ensures.lines,
     )
 
 pub returns : goal.returns
