@@ -20,8 +20,8 @@ pub fn play<C: Cost>(
 {
     let mut book = Workbook::new(heap)?;
     let mut answers = Vec::with_capacity(heap, calls.len())?;
-    for i in 0..calls.len() {
-        let answer = answer_to(&mut book, calls[i], work, trail);
+    for call in calls {
+        let answer = answer_to(&mut book, *call, work, trail);
         answers.push_reserved(answer);
     }
     Ok(answers)

@@ -6,19 +6,19 @@ use Rattle.session.specs.Sequences.{Sequence}
 use Rattle.session.proofs.Sequences.{sequence_none, sequence_next}
 use Rattle.session.proofs.play.play.Goals as goal
 
-pub loop-i-init : goal.loop-i-init
-loop-i-init g c =
+pub loop-call-init : goal.loop-call-init
+loop-call-init g c =
     let m = c.in_ok-answers.ensures in
     (sequence_none g.C.Cost.measure _ _ _ _ m.items c.in_ok-book.ensures, m.len, m.capacity)
 
-pub loop-i-preserved : goal.loop-i-preserved
-loop-i-preserved g c =
+pub loop-call-preserved : goal.loop-call-preserved
+loop-call-preserved g c =
     let e = c.push_reserved.ensures in
-    (sequence_next g.C.Cost.measure c.args.calls.now c.loop-i.i _ _ _ _ _ _ _ _ _ _ _ _ c.loop-i-test.true e.items c.loop-i.invariant.0 c.answer_to-answer.ensures, omega (arith, e.len, c.loop-i.invariant.1), omega (arith, e.capacity, c.loop-i.invariant.2))
+    (sequence_next g.C.Cost.measure c.args.calls.now c.loop-call.call-index _ _ _ _ _ _ _ _ _ _ _ _ c.loop-call-test.true e.items c.loop-call.invariant.0 c.answer_to-answer.ensures, omega (arith, e.len, c.loop-call.invariant.1), omega (arith, e.capacity, c.loop-call.invariant.2))
 
 pub returns : goal.returns
 returns g c =
     let xs = c.args.calls.now in
-    let h : length xs ≤ c.loop-i.i = omega arith in
-    let P : List Call → Type 0 = λ cs. Sequence g.C.Cost.measure cs (vec_items c.loop-i.answers) [] c.args.work.now c.args.trail.now (book_graph c.loop-i.book) c.loop-i.work c.loop-i.trail in
-    (book_graph c.loop-i.book, subst P (take_all c.loop-i.i xs h) c.loop-i.invariant.0)
+    let h : length xs ≤ c.loop-call.call-index = omega arith in
+    let P : List Call → Type 0 = λ cs. Sequence g.C.Cost.measure cs (vec_items c.loop-call.answers) [] c.args.work.now c.args.trail.now (book_graph c.loop-call.book) c.loop-call.work c.loop-call.trail in
+    (book_graph c.loop-call.book, subst P (take_all c.loop-call.call-index xs h) c.loop-call.invariant.0)
