@@ -1,31 +1,25 @@
 // What is said of a cost: its measure and how much.
-ghost use Rattle.std.specs.Prelude.{◌≡◌, ℕ, List, ◌++◌, IfOk, string_bytes, codes, decimal};
+ghost use Rattle.std.specs.Prelude.{◌≡◌, ℕ, List, ◌++◌, Some, codes, decimal, refl};
 
 use measures::cycles::Cycles;
 use measures::stack::Stack;
-use std::alloc::{AllocError, Global};
+use std::fmt;
 
-pub trait CostText {
+// A cost whose display is known.
+pub trait CostText: fmt::Display {
     ghost said: { Self → List ℕ };
 
-    fn say(&self, heap: Global) -> Result<String, AllocError>
-        ensures { IfOk result (λ t. string_bytes t ≡ said self.now) };
+    ghost displays: { (c : Self) → Self.output c ≡ Some (said c) };
 }
 
 impl CostText for Cycles {
     ghost said = { λ c. codes "cycles " ++ decimal c.count };
 
-    fn say(&self, heap: Global) -> Result<String, AllocError> {
-        let count = self.count;
-        format!(in heap; "cycles {count}")
-    }
+    ghost displays = { λ c. refl };
 }
 
 impl CostText for Stack {
     ghost said = { λ c. codes "stack " ++ decimal c.bytes };
 
-    fn say(&self, heap: Global) -> Result<String, AllocError> {
-        let bytes = self.bytes;
-        format!(in heap; "stack {bytes}")
-    }
+    ghost displays = { λ c. refl };
 }

@@ -2,7 +2,6 @@
 #![tactic(auto)]
 
 pub mod answer_text;
-pub mod call_text;
 pub mod cost_text;
 mod parse;
 pub mod read_call;

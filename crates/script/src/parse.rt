@@ -4,24 +4,12 @@ use session::call::Call;
 use std::str::SplitWhitespace;
 use workbook::edit::Edit;
 
-fn number(words: &mut SplitWhitespace<'_>) -> Option<i64> {
-    words.next()?.parse::<i64>().ok()
-}
-
-fn index(words: &mut SplitWhitespace<'_>) -> Option<usize> {
-    usize::try_from(number(words)?).ok()
-}
-
-fn small(words: &mut SplitWhitespace<'_>) -> Option<u8> {
-    u8::try_from(number(words)?).ok()
-}
-
-fn short(words: &mut SplitWhitespace<'_>) -> Option<u16> {
-    u16::try_from(number(words)?).ok()
-}
-
-fn time(words: &mut SplitWhitespace<'_>) -> Option<u32> {
-    u32::try_from(number(words)?).ok()
+// A number of whatever type is asked for.
+fn number<T: TryFrom<i64>>(words: &mut SplitWhitespace<'_>) -> Option<T>
+where
+    T::Error: Drop,
+{
+    T::try_from(words.next()?.parse::<i64>().ok()?).ok()
 }
 
 fn target(words: &mut SplitWhitespace<'_>) -> Option<Target> {
@@ -34,9 +22,9 @@ fn target(words: &mut SplitWhitespace<'_>) -> Option<Target> {
 
 fn edge(words: &mut SplitWhitespace<'_>) -> Option<Edge> {
     Some(Edge {
-        from: small(words)?,
+        from: number(words)?,
         to: target(words)?,
-        effect: i32::try_from(number(words)?).ok()?,
+        effect: number(words)?,
     })
 }
 
@@ -44,18 +32,18 @@ fn edge(words: &mut SplitWhitespace<'_>) -> Option<Edge> {
 fn fact(constraint: Constraint, words: &mut SplitWhitespace<'_>) -> Option<Fact> {
     Some(Fact {
         constraint,
-        first: short(words)?,
-        last: short(words)?,
+        first: number(words)?,
+        last: number(words)?,
     })
 }
 
 fn add_fact(kind: &str, words: &mut SplitWhitespace<'_>) -> Option<Edit> {
-    let scope = index(words)?;
-    let node = small(words)?;
+    let scope = number(words)?;
+    let node = number(words)?;
     let constraint = match kind {
         "bar" => Constraint::Bar(node),
         "must" => Constraint::Must(node),
-        "pair" => Constraint::Pair(node, small(words)?),
+        "pair" => Constraint::Pair(node, number(words)?),
         _ => return None,
     };
     Some(Edit::AddFact {
@@ -67,20 +55,20 @@ fn add_fact(kind: &str, words: &mut SplitWhitespace<'_>) -> Option<Edit> {
 fn add(words: &mut SplitWhitespace<'_>) -> Option<Edit> {
     match words.next()? {
         "scope" => Some(Edit::AddScope {
-            least: short(words)?,
-            most: short(words)?,
+            least: number(words)?,
+            most: number(words)?,
         }),
         "block" => Some(Edit::AddBlock {
-            scope: index(words)?,
-            time: time(words)?,
-            stack: short(words)?,
+            scope: number(words)?,
+            time: number(words)?,
+            stack: number(words)?,
         }),
         "call" => Some(Edit::AddCall {
-            scope: index(words)?,
-            callee: small(words)?,
+            scope: number(words)?,
+            callee: number(words)?,
         }),
         "edge" => Some(Edit::AddEdge {
-            scope: index(words)?,
+            scope: number(words)?,
             edge: edge(words)?,
         }),
         kind => add_fact(kind, words),
@@ -90,15 +78,15 @@ fn add(words: &mut SplitWhitespace<'_>) -> Option<Edit> {
 fn set(words: &mut SplitWhitespace<'_>) -> Option<Edit> {
     match words.next()? {
         "passes" => Some(Edit::SetPasses {
-            scope: index(words)?,
-            least: short(words)?,
-            most: short(words)?,
+            scope: number(words)?,
+            least: number(words)?,
+            most: number(words)?,
         }),
         "figures" => Some(Edit::SetFigures {
-            scope: index(words)?,
-            node: index(words)?,
-            time: time(words)?,
-            stack: short(words)?,
+            scope: number(words)?,
+            node: number(words)?,
+            time: number(words)?,
+            stack: number(words)?,
         }),
         _ => None,
     }
@@ -110,7 +98,7 @@ pub(crate) fn parse(line: &str) -> Option<Call> {
         "add" => Some(Call::Edit(add(&mut words)?)),
         "set" => Some(Call::Edit(set(&mut words)?)),
         "strike" => Some(Call::Edit(Edit::Strike {
-            scope: index(&mut words)?,
+            scope: number(&mut words)?,
         })),
         "work" => Some(Call::WorkOut),
         _ => None,

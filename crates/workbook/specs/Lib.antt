@@ -3,4 +3,5 @@ pub mod Calls
 pub mod Sheets
 pub mod Steps
 pub mod Tables
+pub mod Text
 pub mod Tries

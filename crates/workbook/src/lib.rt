@@ -4,5 +4,6 @@
 pub mod book;
 mod change;
 pub mod edit;
+mod edit_text;
 mod sheet;
 mod tables;

@@ -4,23 +4,28 @@ use crate::step::{Step, built, check_step};
 use model::graph::Target::Leave;
 use std::test::Fail;
 
-// After so many of a step, the next one and the number of its refusal.
+// After so many of a step, the next one and the number of its refusal, none where it is taken.
 #[test]
 fn counts(rt: HostRuntime) -> Result<(), Fail> {
-    let cases: [(usize, Step, Step, u8); 12] = [
-        (14, Scope(1, 1), Scope(1, 1), 0),
-        (15, Scope(1, 1), Scope(1, 1), 22),
-        (30, Block(0, 0, 0), Block(0, 0, 0), 0),
-        (31, Block(0, 0, 0), Block(0, 0, 0), 22),
-        (95, Edge(0, 0, Leave, 0), Edge(0, 0, Leave, 0), 0),
-        (96, Edge(0, 0, Leave, 0), Edge(0, 0, Leave, 0), 22),
-        (3, Bar(0, 0, 1, 1), Bar(0, 0, 1, 1), 0),
-        (4, Bar(0, 0, 1, 1), Bar(0, 0, 1, 1), 22),
+    let cases: [(usize, Step, Step, Option<u8>); 12] = [
+        (14, Scope(1, 1), Scope(1, 1), None),
+        (15, Scope(1, 1), Scope(1, 1), Some(22)),
+        (30, Block(0, 0, 0), Block(0, 0, 0), None),
+        (31, Block(0, 0, 0), Block(0, 0, 0), Some(22)),
+        (95, Edge(0, 0, Leave, 0), Edge(0, 0, Leave, 0), None),
+        (96, Edge(0, 0, Leave, 0), Edge(0, 0, Leave, 0), Some(22)),
+        (3, Bar(0, 0, 1, 1), Bar(0, 0, 1, 1), None),
+        (4, Bar(0, 0, 1, 1), Bar(0, 0, 1, 1), Some(22)),
         // no other rule is looked at
-        (15, Scope(1, 1), Scope(0, 1), 22),
-        (31, Block(0, 0, 0), Call(0, 9), 22),
-        (96, Edge(0, 0, Leave, 0), Edge(0, 9, Leave, -1000001), 22),
-        (4, Bar(0, 0, 1, 1), Bar(0, 9, 0, 1), 22),
+        (15, Scope(1, 1), Scope(0, 1), Some(22)),
+        (31, Block(0, 0, 0), Call(0, 9), Some(22)),
+        (
+            96,
+            Edge(0, 0, Leave, 0),
+            Edge(0, 9, Leave, -1000001),
+            Some(22),
+        ),
+        (4, Bar(0, 0, 1, 1), Bar(0, 9, 0, 1), Some(22)),
     ];
     for (times, again, last, expected) in cases {
         let mut book = built(&rt, &[Scope(1, 1), Block(0, 0, 0)], times, again)?;
@@ -32,8 +37,8 @@ fn counts(rt: HostRuntime) -> Result<(), Fail> {
 #[test]
 fn struck_place(rt: HostRuntime) -> Result<(), Fail> {
     let mut book = built(&rt, &[Scope(1, 1), Block(0, 0, 0)], 4, Bar(0, 0, 1, 1))?;
-    check_step(&mut book, Bar(0, 0, 1, 1), 22)?;
-    check_step(&mut book, Strike(0), 0)?;
-    check_step(&mut book, Bar(0, 0, 1, 1), 0)?;
-    check_step(&mut book, Bar(0, 0, 1, 1), 22)
+    check_step(&mut book, Bar(0, 0, 1, 1), Some(22))?;
+    check_step(&mut book, Strike(0), None)?;
+    check_step(&mut book, Bar(0, 0, 1, 1), None)?;
+    check_step(&mut book, Bar(0, 0, 1, 1), Some(22))
 }

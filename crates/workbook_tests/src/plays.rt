@@ -4,13 +4,13 @@ use crate::step::{Step, edit_of};
 use measures::cycles::Cycles;
 use model::graph::Target::{Again, Leave, To};
 use model::trail::Line;
-use session::call::{Answer, Call};
+use session::call::Reply::{Bound, Done, Number};
+use session::call::{Answer, Call, Reply};
 use session::play::play;
 use std::test::Fail;
 
-// A step, or none for a working out; and its answer: n and a number given, d for done, r and the number of a refusal,
-// b and a bound.
-type Turn = (Option<Step>, (char, u64));
+// A step, or none for a working out; and its answer: a reply, a bound by its count, or the number of the refusal.
+type Turn = (Option<Step>, Result<Reply<u64>, u8>);
 
 fn call_of(step: Option<Step>) -> Call {
     match step {
@@ -19,12 +19,12 @@ fn call_of(step: Option<Step>) -> Call {
     }
 }
 
-fn shown(answer: Answer<Cycles>) -> (char, u64) {
+fn shown(answer: Answer<Cycles>) -> Result<Reply<u64>, u8> {
     match answer {
-        Answer::Number(number) => ('n', number as u64),
-        Answer::Done => ('d', 0),
-        Answer::Refused(refusal) => ('r', refusal.number() as u64),
-        Answer::Bound(bound) => ('b', bound.count),
+        Ok(Number(number)) => Ok(Number(number)),
+        Ok(Done) => Ok(Done),
+        Ok(Bound(bound)) => Ok(Bound(bound.count)),
+        Err(refusal) => Err(refusal.number()),
     }
 }
 
@@ -43,8 +43,8 @@ fn check_play(rt: &HostRuntime, turns: &[Turn]) -> Result<(), Fail> {
     if answers.len() != turns.len() {
         return Err(Fail::new("another number of answers"));
     }
-    for i in 0..turns.len() {
-        if i >= answers.len() || shown(answers[i]) != turns[i].1 {
+    for (i, (answer, (_, expected))) in answers.iter().zip(turns.iter()).enumerate() {
+        if shown(*answer) != *expected {
             return Err(Fail::new(format_args!("another answer number {i}")));
         }
     }
@@ -57,36 +57,36 @@ fn built_and_worked_out(rt: HostRuntime) -> Result<(), Fail> {
     check_play(
         &rt,
         &[
-            (None, ('r', 21)),
-            (Some(Block(0, 5, 8)), ('r', 25)),
-            (Some(Scope(0, 4)), ('r', 23)),
-            (Some(Scope(1, 4)), ('n', 0)),
-            (None, ('r', 43)),
-            (Some(Block(0, 5, 8)), ('n', 0)),
-            (Some(Block(0, 10, 40)), ('n', 1)),
-            (Some(Block(0, 1000001, 16)), ('r', 24)),
-            (Some(Block(0, 3, 16)), ('n', 2)),
-            (Some(Block(0, 2, 8)), ('n', 3)),
-            (Some(Edge(0, 0, To(1), -2)), ('n', 0)),
-            (Some(Edge(0, 0, To(2), 0)), ('n', 1)),
-            (Some(Edge(0, 2, To(1), 0)), ('r', 26)),
-            (Some(Edge(0, 1, To(3), -1)), ('n', 2)),
-            (Some(Edge(0, 2, To(3), 0)), ('n', 3)),
-            (Some(Edge(0, 3, Again, -3)), ('r', 27)),
-            (Some(Edge(0, 3, Again, -1)), ('n', 4)),
-            (Some(Edge(0, 3, Leave, 0)), ('n', 5)),
-            (None, ('b', 53)),
-            (Some(Figures(0, 1, 9, 40)), ('d', 0)),
-            (None, ('b', 49)),
-            (Some(Figures(0, 1, 0, 40)), ('r', 27)),
-            (None, ('b', 49)),
-            (Some(Bar(0, 1, 1, 4)), ('n', 0)),
-            (None, ('b', 37)),
-            (Some(Strike(0)), ('d', 0)),
-            (Some(Strike(0)), ('r', 31)),
-            (None, ('b', 49)),
-            (Some(Passes(0, 1, 2)), ('d', 0)),
-            (None, ('b', 25)),
+            (None, Err(21)),
+            (Some(Block(0, 5, 8)), Err(25)),
+            (Some(Scope(0, 4)), Err(23)),
+            (Some(Scope(1, 4)), Ok(Number(0))),
+            (None, Err(43)),
+            (Some(Block(0, 5, 8)), Ok(Number(0))),
+            (Some(Block(0, 10, 40)), Ok(Number(1))),
+            (Some(Block(0, 1000001, 16)), Err(24)),
+            (Some(Block(0, 3, 16)), Ok(Number(2))),
+            (Some(Block(0, 2, 8)), Ok(Number(3))),
+            (Some(Edge(0, 0, To(1), -2)), Ok(Number(0))),
+            (Some(Edge(0, 0, To(2), 0)), Ok(Number(1))),
+            (Some(Edge(0, 2, To(1), 0)), Err(26)),
+            (Some(Edge(0, 1, To(3), -1)), Ok(Number(2))),
+            (Some(Edge(0, 2, To(3), 0)), Ok(Number(3))),
+            (Some(Edge(0, 3, Again, -3)), Err(27)),
+            (Some(Edge(0, 3, Again, -1)), Ok(Number(4))),
+            (Some(Edge(0, 3, Leave, 0)), Ok(Number(5))),
+            (None, Ok(Bound(53))),
+            (Some(Figures(0, 1, 9, 40)), Ok(Done)),
+            (None, Ok(Bound(49))),
+            (Some(Figures(0, 1, 0, 40)), Err(27)),
+            (None, Ok(Bound(49))),
+            (Some(Bar(0, 1, 1, 4)), Ok(Number(0))),
+            (None, Ok(Bound(37))),
+            (Some(Strike(0)), Ok(Done)),
+            (Some(Strike(0)), Err(31)),
+            (None, Ok(Bound(49))),
+            (Some(Passes(0, 1, 2)), Ok(Done)),
+            (None, Ok(Bound(25))),
         ],
     )
 }
@@ -97,15 +97,15 @@ fn struck(rt: HostRuntime) -> Result<(), Fail> {
     check_play(
         &rt,
         &[
-            (Some(Scope(1, 1)), ('n', 0)),
-            (Some(Block(0, 7, 0)), ('n', 0)),
-            (Some(Edge(0, 0, Leave, -2)), ('n', 0)),
-            (Some(Bar(0, 0, 1, 1)), ('n', 0)),
-            (None, ('r', 43)),
-            (Some(Strike(0)), ('d', 0)),
-            (None, ('b', 5)),
-            (Some(Bar(0, 0, 1, 1)), ('n', 0)),
-            (None, ('r', 43)),
+            (Some(Scope(1, 1)), Ok(Number(0))),
+            (Some(Block(0, 7, 0)), Ok(Number(0))),
+            (Some(Edge(0, 0, Leave, -2)), Ok(Number(0))),
+            (Some(Bar(0, 0, 1, 1)), Ok(Number(0))),
+            (None, Err(43)),
+            (Some(Strike(0)), Ok(Done)),
+            (None, Ok(Bound(5))),
+            (Some(Bar(0, 0, 1, 1)), Ok(Number(0))),
+            (None, Err(43)),
         ],
     )
 }

@@ -1,14 +1,14 @@
-// The text of a call: its words with one space between each two.
+// The text of a call that changes a workbook: its words with one space between each two.
 ghost use Rattle.std.specs.Prelude.{Some};
-ghost use Rattle.script.specs.Text.{target_text, edge_text, fact_text, edit_text, call_text_lem};
+ghost use Rattle.workbook.specs.Text.{target_text, fact_text, edit_text};
 
+use crate::edit::Edit;
 use model::graph::{Constraint, Edge, Fact, Target};
-use session::call::Call;
 use std::fmt;
-use workbook::edit::Edit;
 
+// A type of its own, since a target is of another crate.
 #[derive(Clone, Copy)]
-pub struct TargetText(pub Target);
+struct TargetText(Target);
 
 impl fmt::Display for TargetText {
     ghost output = { λ t. Some (target_text t.0) };
@@ -22,24 +22,9 @@ impl fmt::Display for TargetText {
     }
 }
 
-// An edge of a scope.
+// A fact of a scope, which is of another crate too.
 #[derive(Clone, Copy)]
-pub struct EdgeText(pub usize, pub Edge);
-
-impl fmt::Display for EdgeText {
-    ghost output = { λ t. Some (edge_text t.0 t.1) };
-
-    fn fmt<W: fmt::Write>(&self, f: &mut fmt::Formatter<W>) -> fmt::Result {
-        let scope = self.0;
-        let Edge { from, to, effect } = self.1;
-        let to = TargetText(to);
-        write!(f, "add edge {scope} {from} {to} {effect}")
-    }
-}
-
-// A fact of a scope.
-#[derive(Clone, Copy)]
-pub struct FactText(pub usize, pub Fact);
+struct FactText(usize, Fact);
 
 impl fmt::Display for FactText {
     ghost output = { λ t. Some (fact_text t.0 t.1) };
@@ -59,20 +44,18 @@ impl fmt::Display for FactText {
     }
 }
 
-#[derive(Clone, Copy)]
-pub struct EditText(pub Edit);
-
-impl fmt::Display for EditText {
-    ghost output = { λ t. Some (edit_text t.0) };
+impl fmt::Display for Edit {
+    ghost output = { λ e. Some (edit_text e) };
 
     fn fmt<W: fmt::Write>(&self, f: &mut fmt::Formatter<W>) -> fmt::Result {
-        match self.0 {
+        match *self {
             Edit::AddScope { least, most } => write!(f, "add scope {least} {most}"),
             Edit::AddBlock { scope, time, stack } => write!(f, "add block {scope} {time} {stack}"),
             Edit::AddCall { scope, callee } => write!(f, "add call {scope} {callee}"),
             Edit::AddEdge { scope, edge } => {
-                let text = EdgeText(scope, edge);
-                write!(f, "{text}")
+                let Edge { from, to, effect } = edge;
+                let to = TargetText(to);
+                write!(f, "add edge {scope} {from} {to} {effect}")
             }
             Edit::AddFact { scope, fact } => {
                 let text = FactText(scope, fact);
@@ -88,23 +71,6 @@ impl fmt::Display for EditText {
                 stack,
             } => { write!(f, "set figures {scope} {node} {time} {stack}") }
             Edit::Strike { scope } => write!(f, "strike {scope}"),
-        }
-    }
-}
-
-#[derive(Clone, Copy)]
-pub struct CallText(pub Call);
-
-impl fmt::Display for CallText {
-    ghost output = { λ t. Some (call_text_lem t.0) };
-
-    fn fmt<W: fmt::Write>(&self, f: &mut fmt::Formatter<W>) -> fmt::Result {
-        match self.0 {
-            Call::Edit(edit) => {
-                let text = EditText(edit);
-                write!(f, "{text}")
-            }
-            Call::WorkOut => write!(f, "work out"),
         }
     }
 }
