@@ -73,8 +73,8 @@ fn refusal(book: &mut Workbook, step: Step) -> Option<u8> {
 }
 
 // The counts of the workbook and of scope 0, the passes of scope 0 and its first node.
-#[derive(PartialEq, Eq)]
-struct Seen {
+#[derive(Clone, Copy, PartialEq, Eq)]
+struct View {
     scopes: usize,
     nodes: Option<usize>,
     edges: Option<usize>,
@@ -83,8 +83,8 @@ struct Seen {
     node: Option<Node>,
 }
 
-fn seen(book: &Workbook) -> Seen {
-    Seen {
+fn seen(book: &Workbook) -> View {
+    View {
         scopes: book.scopes(),
         nodes: book.nodes(0),
         edges: book.edges(0),
