@@ -1,8 +1,8 @@
--- One step over the records.
-use Rattle.std.proofs.Common.{◌≡◌, ℕ, zero, suc, pred, ◌+◌, ◌<◌, ◌≤◌, true, false, ltb, List, [], ◌∷◌, length, get_or, drop, Some, None, Ok, Err, Option, Result, sym, refl, ap, ◌∙◌, subst, ⊎_elim, add-zero, arith}
-use Rattle.std.proofs.lemmas.List.{at_drop_all, drop_more, length-drop, drop-drop, get_or-drop}
+-- Records read one after the other.
+use Rattle.std.proofs.Common.{◌≡◌, ℕ, zero, suc, pred, ◌+◌, ◌<◌, ◌≤◌, true, false, ltb, List, [], ◌∷◌, length, drop, Some, None, Ok, Err, Option, Result, refl, ap, ◌∙◌, ⊎_elim, arith}
 use Rattle.std.proofs.lemmas.Bool.{cases_Bool}
 use Rattle.std.proofs.lemmas.Bool.Decides.{nat_tests}
+use Rattle.std.specs.List.{cons_option, filter_map}
 use Rattle.model.specs.declared.refusal.Refusal.{Refusal}
 use Rattle.model.specs.declared.refusal.Refusal.TheVariants.{UnknownScope, BadRecord}
 use Rattle.image.specs.declared.record.Kind.{Kind}
@@ -10,8 +10,9 @@ use Rattle.image.specs.declared.record.Kind.TheVariants.{Scope, Block, Call, Edg
 use Rattle.image.specs.declared.record.Record.{Record}
 use Rattle.image.specs.declared.record.Record.TheVariants.{AddScope, AddNode, AddEdge, AddFact}
 use Rattle.image.specs.Layout.{one, size_of, kind_of, of_kind, front_of}
-use Rattle.image.specs.Meaning.{read, going, placed, more}
+use Rattle.image.specs.Meaning.{Reading, read, going, placed, more, records, fault_of}
 use Rattle.image.specs.Meaning.Reading.{end, fault, next}
+use Rattle.image.specs.Given.{given}
 
 pub size_positive : (k : Kind) → 1 ≤ size_of k
 size_positive Scope = omega arith
@@ -32,40 +33,53 @@ front_size bs r e =
     ⊎_elim (λ t. let z : ◌≡◌ {A = ℕ} 0 1 = (let e' : Err BadRecord ≡ Ok r = rw t at e in cc) in absurd (omega arith)) (λ t. of_kind_size (kind_of (one bs 1)) bs r (rw t at e)) (cases_Bool (ltb (length bs) 2))
 
 -- what is skipped is dropped
-pub read_skip : (k seen : ℕ) (bs : List ℕ) → read k seen bs ≡ read 0 seen (drop k bs)
+read_skip : (k seen : ℕ) (bs : List ℕ) → read k seen bs ≡ read 0 seen (drop k bs)
 read_skip zero seen bs = refl
 read_skip (suc k) seen [] = refl
 read_skip (suc k) seen (b ∷ bs) = read_skip k seen bs
 
-pub at_end : (bs : List ℕ) (at seen : ℕ) → length bs ≤ at → read 0 seen (drop at bs) ≡ end
-at_end bs at seen h = at_drop_all (read 0 seen) bs at h
-
--- the records from a place on begin with the one at the place
-pub at_record : (bs : List ℕ) (at seen : ℕ) → at < length bs → read 0 seen (drop at bs) ≡ going (front_of (drop at bs)) seen (λ n. read (pred (get_or bs at 0)) n (drop (at + 1) bs))
-at_record bs at seen h =
-    let P : List ℕ → Type 0 = λ xs. read 0 seen xs ≡ going (front_of xs) seen (λ n. read (pred (get_or bs at 0)) n (drop (at + 1) bs)) in
-    subst P (sym (drop_more bs at 0 h)) refl
-
-pub past_record : (bs : List ℕ) (at b n : ℕ) → 1 ≤ b → read (pred b) n (drop (at + 1) bs) ≡ read 0 n (drop (at + b) bs)
-past_record bs at b n h =
-    read_skip (pred b) n (drop (at + 1) bs) ∙ ap (read 0 n) (drop-drop (pred b) (at + 1) bs ∙ ap (λ (k : ℕ). drop k bs) (omega arith))
+past_record : (b seen : ℕ) (bs : List ℕ) → 1 ≤ b → read (pred b) seen bs ≡ read 0 seen (drop b (b ∷ bs))
+past_record zero seen bs h = absurd (omega arith)
+past_record (suc k) seen bs h = read_skip k seen bs
 
 -- the three ways of a step
-pub is_fault : (bs : List ℕ) (at seen : ℕ) (e : Refusal) → at < length bs → front_of (drop at bs) ≡ Err e → read 0 seen (drop at bs) ≡ fault e
-is_fault bs at seen e h f = at_record bs at seen h ∙ ap (λ (x : Result Record Refusal). going x seen (λ n. read (pred (get_or bs at 0)) n (drop (at + 1) bs))) f
+pub is_fault : (bs : List ℕ) (seen : ℕ) (e : Refusal) → 0 < length bs → front_of bs ≡ Err e → read 0 seen bs ≡ fault e
+is_fault [] seen e h f = absurd (omega arith)
+is_fault (b ∷ bs) seen e h f = ap (λ (x : Result Record Refusal). going x seen (λ n. read (pred b) n bs)) f
 
-pub is_misplaced : (bs : List ℕ) (at seen : ℕ) (r : Record) → at < length bs → front_of (drop at bs) ≡ Ok r → placed seen r ≡ false → read 0 seen (drop at bs) ≡ fault UnknownScope
-is_misplaced bs at seen r h f p = at_record bs at seen h ∙ ap (λ (x : Result Record Refusal). going x seen (λ n. read (pred (get_or bs at 0)) n (drop (at + 1) bs))) f ∙ rw p
+pub is_misplaced : (bs : List ℕ) (seen : ℕ) (r : Record) → 0 < length bs → front_of bs ≡ Ok r → placed seen r ≡ false → read 0 seen bs ≡ fault UnknownScope
+is_misplaced [] seen r h f p = absurd (omega arith)
+is_misplaced (b ∷ bs) seen r h f p = ap (λ (x : Result Record Refusal). going x seen (λ n. read (pred b) n bs)) f ∙ rw p
 
-pub size_here : (bs : List ℕ) (at : ℕ) (r : Record) → at < length bs → front_of (drop at bs) ≡ Ok r → (1 ≤ get_or bs at 0) × (at + get_or bs at 0 ≤ length bs)
-size_here bs at r h f = let k = front_size (drop at bs) r f in let l = length-drop at bs in let g : get_or (drop at bs) 0 0 ≡ get_or bs at 0 = rw add-zero at (get_or-drop at bs 0 0) in (omega arith, omega arith)
-
-pub is_next : (bs : List ℕ) (at seen : ℕ) (r : Record) → at < length bs → front_of (drop at bs) ≡ Ok r → placed seen r ≡ true → read 0 seen (drop at bs) ≡ next r (read 0 (more seen r) (drop (at + get_or bs at 0) bs))
-is_next bs at seen r h f p =
-    at_record bs at seen h ∙ ap (λ (x : Result Record Refusal). going x seen (λ n. read (pred (get_or bs at 0)) n (drop (at + 1) bs))) f ∙ rw p (ap (next r) (past_record bs at (get_or bs at 0) (more seen r) (size_here bs at r h f).0))
+pub is_next : (bs : List ℕ) (seen : ℕ) (r : Record) → 0 < length bs → front_of bs ≡ Ok r → placed seen r ≡ true → read 0 seen bs ≡ next r (read 0 (more seen r) (drop (one bs 0) bs))
+is_next [] seen r h f p = absurd (omega arith)
+is_next (b ∷ bs) seen r h f p =
+    ap (λ (x : Result Record Refusal). going x seen (λ n. read (pred b) n bs)) f ∙ rw p (ap (next r) (past_record b (more seen r) bs (front_size (b ∷ bs) r f).0))
 
 pub more_at_most : (seen : ℕ) (r : Record) → more seen r ≤ seen + 1
 more_at_most seen (AddScope l m) = omega arith
 more_at_most seen (AddNode s n) = omega arith
 more_at_most seen (AddEdge s e) = omega arith
 more_at_most seen (AddFact s f) = omega arith
+
+-- what f finds in a record that was read
+abbrev pub found : {X : Type 0} → (Record → Option X) → Result Record Refusal → Option X
+found f (Ok r) = f r
+found f (Err e) = None
+
+-- what f finds in the records is what it finds in what a reader gives
+pub found_given : {X : Type 0} (f : Record → Option X) (x : Reading) → filter_map (found f) (given x) ≡ filter_map f (records x)
+found_given f end = refl
+found_given f (fault e) = refl
+found_given f (next r x) = ap (cons_option (f r)) (found_given f x)
+
+-- the first fault of what a reader gives is the fault of the records
+abbrev pub first_fault : List (Result Record Refusal) → Option Refusal
+first_fault [] = None
+first_fault (Ok r ∷ xs) = first_fault xs
+first_fault (Err e ∷ xs) = Some e
+
+pub fault_given : (x : Reading) → first_fault (given x) ≡ fault_of x
+fault_given end = refl
+fault_given (fault e) = refl
+fault_given (next r x) = fault_given x

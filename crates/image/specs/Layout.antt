@@ -1,5 +1,5 @@
 -- The layout of one record.
-use Rattle.std.specs.Prelude.{ℕ, ◌+◌, ◌*◌, cond, ◌&&◌, List, [], ◌∷◌, length, Some, None, Ok, Err, Option, Result, ◌==◌, nat_le, nat_lt, slice_index, slice_index_or}
+use Rattle.std.specs.Prelude.{◌≡◌, ℕ, ◌+◌, ◌*◌, cond, ◌&&◌, List, [], ◌∷◌, length, Some, None, Ok, Err, Option, Result, MatchResult, ◌==◌, nat_le, nat_lt, slice_index, slice_index_or}
 use Rattle.std.specs.Int.{w32}
 use Rattle.std.proofs.Common.{to_z}
 use Rattle.model.specs.declared.graph.Node.TheVariants.{Block as block, Call as call}
@@ -29,6 +29,10 @@ kinds = None ∷ Some Scope ∷ Some Block ∷ Some Call ∷ Some Edge ∷ Some 
 
 abbrev pub kind_of : ℕ → Option Kind
 kind_of n = slice_index_or kinds n None
+
+-- the answer to a number: its kind, or that there is none
+abbrev pub IsKindOf : ℕ → Result Kind Refusal → Type 0
+IsKindOf n r = MatchResult r (λ k. kind_of n ≡ Some k) (λ e. (kind_of n ≡ None) × (e ≡ UnknownKind))
 
 -- the whole length of a record of each kind
 abbrev pub size_of : Kind → ℕ

@@ -1,21 +1,13 @@
 -- The parts of a graph, found in the list of the records.
-use Rattle.std.specs.Prelude.{ℕ, cond, List, [], ◌∷◌, length, Some, None, Option, ◌==◌}
-use Rattle.std.specs.List.{slice_get}
+use Rattle.std.specs.Prelude.{ℕ, cond, List, length, Some, None, Option, ◌==◌}
+use Rattle.std.specs.List.{slice_get, filter_map}
 use Rattle.model.specs.declared.graph.Node.{Node}
 use Rattle.model.specs.declared.graph.Edge.{Edge}
 use Rattle.model.specs.declared.graph.Fact.{Fact}
 use Rattle.image.specs.declared.record.Record.{Record}
 use Rattle.image.specs.declared.record.Record.TheVariants.{AddScope, AddNode, AddEdge, AddFact}
 
--- of a list of records, in their order, what f finds in them
-abbrev pub kept : {X : Type 0} → Option X → List X → List X
-kept None xs = xs
-kept (Some x) xs = x ∷ xs
-
-abbrev pub parts : {X : Type 0} → (Record → Option X) → List Record → List X
-parts f [] = []
-parts f (r ∷ rs) = kept (f r) (parts f rs)
-
+-- the passes that a record adds, and the node, the edge and the fact that it adds to scope i
 abbrev pub passes_in : Record → Option (ℕ × ℕ)
 passes_in (AddScope l m) = Some (l, m)
 passes_in (AddNode s n) = None
@@ -47,5 +39,5 @@ under (Some p) f = f p
 
 -- how many parts f finds in a list of the whole graph, or of a scope that is there
 abbrev pub count_of : {X : Type 0} → (Record → Option X) → Option ℕ → List Record → Option ℕ
-count_of f None rs = Some (length (parts f rs))
-count_of f (Some s) rs = under (slice_get (parts passes_in rs) s) (λ p. Some (length (parts f rs)))
+count_of f None rs = Some (length (filter_map f rs))
+count_of f (Some s) rs = under (slice_get (filter_map passes_in rs) s) (λ p. Some (length (filter_map f rs)))

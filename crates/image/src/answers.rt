@@ -3,7 +3,6 @@ ghost use Rattle.image.specs.Meaning.{meant};
 
 use crate::image::Image;
 use crate::part::{Edges, Facts, Nodes, Scopes};
-use crate::seek::{count, seek};
 use model::graph::{Edge, Fact, Node};
 use model::scope_graph::ScopeGraph;
 
@@ -12,34 +11,34 @@ impl<'a> ScopeGraph for Image<'a> {
 
     fn scopes(&self) -> usize {
         // the list of the scopes belongs to no scope, so it is always there
-        count(self.bytes, &Scopes).unwrap_or(0)
+        self.count(&Scopes).unwrap_or(0)
     }
 
     fn passes(&self, scope: usize) -> Option<(u16, u16)> {
-        seek(self.bytes, &Scopes, scope)
+        self.seek(&Scopes, scope)
     }
 
     fn nodes(&self, scope: usize) -> Option<usize> {
-        count(self.bytes, &Nodes(scope))
+        self.count(&Nodes(scope))
     }
 
     fn edges(&self, scope: usize) -> Option<usize> {
-        count(self.bytes, &Edges(scope))
+        self.count(&Edges(scope))
     }
 
     fn facts(&self, scope: usize) -> Option<usize> {
-        count(self.bytes, &Facts(scope))
+        self.count(&Facts(scope))
     }
 
     fn node(&self, scope: usize, n: usize) -> Option<Node> {
-        seek(self.bytes, &Nodes(scope), n)
+        self.seek(&Nodes(scope), n)
     }
 
     fn edge(&self, scope: usize, n: usize) -> Option<Edge> {
-        seek(self.bytes, &Edges(scope), n)
+        self.seek(&Edges(scope), n)
     }
 
     fn fact(&self, scope: usize, n: usize) -> Option<Fact> {
-        seek(self.bytes, &Facts(scope), n)
+        self.seek(&Facts(scope), n)
     }
 }

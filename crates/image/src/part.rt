@@ -1,11 +1,11 @@
 // What a walk over the records looks for.
 ghost use Rattle.std.specs.Prelude.{◌≡◌, ℕ, List, length, Some, None, Option};
 ghost use Rattle.std.proofs.Common.{ap};
-ghost use Rattle.std.specs.List.{slice_get};
+ghost use Rattle.std.specs.List.{slice_get, filter_map};
 ghost use Rattle.model.specs.Graph.{Scope, passes_at, node_at, edge_at, fact_at_lem, node_count_lem, edge_count, fact_count_lem};
 ghost use Rattle.image.specs.declared.record.Record.{Record};
 ghost use Rattle.image.specs.Meaning.{records, reading, meant};
-ghost use Rattle.image.specs.Parts.{parts, count_of, passes_in, node_in, edge_in, fact_in};
+ghost use Rattle.image.specs.Parts.{count_of, passes_in, node_in, edge_in, fact_in};
 ghost use Rattle.image.specs.Found.{passes_found, scopes_found, node_found, nodes_found, edge_found, edges_found, fact_found, facts_found};
 
 use crate::record::Record;
@@ -32,7 +32,7 @@ pub trait Part {
     fn scope(&self) -> Option<usize>
         ensures { result ≡ home self.now };
 
-    ghost finds: { (p : Self) (bs : List ℕ) (n : ℕ) → asked p (meant bs) n ≡ slice_get (parts (picks p) (records (reading bs))) n };
+    ghost finds: { (p : Self) (bs : List ℕ) (n : ℕ) → asked p (meant bs) n ≡ slice_get (filter_map (picks p) (records (reading bs))) n };
 
     ghost counts: { (p : Self) (bs : List ℕ) → counted p (meant bs) ≡ count_of (picks p) (home p) (records (reading bs)) };
 }

@@ -1,40 +1,28 @@
 // One record, read from the bytes that it begins.
-ghost use Rattle.std.specs.Prelude.{◌≡◌, ◌≤◌, length};
-ghost use Rattle.image.specs.Layout.{kind_of, size_of, target_of, fields, front_of};
+ghost use Rattle.std.specs.Prelude.{◌≡◌, ◌+◌, ◌≤◌, length, drop, MatchResult};
+ghost use Rattle.image.specs.Layout.{one, two as two_at, four as four_at, size_of, target_of, fields, front_of};
 
 use crate::record::{Kind, Record};
 use model::graph::{Constraint, Edge, Fact, Node, Target};
 use model::refusal::Refusal;
 
-fn kind(number: u8) -> Option<Kind>
-    ensures { result ≡ kind_of number }
+// The number of two bytes that begins at a place.
+fn two(b: &[u8], at: usize) -> u16
+    requires { at + 2 ≤ length b.now }
+    ensures { result ≡ two_at b.now at }
 {
-    match number {
-        1 => Some(Kind::Scope),
-        2 => Some(Kind::Block),
-        3 => Some(Kind::Call),
-        4 => Some(Kind::Edge),
-        5 => Some(Kind::Bar),
-        6 => Some(Kind::Must),
-        7 => Some(Kind::Pair),
-        _ => None,
-    }
+    u16::from_be_bytes([b[at], b[at + 1]])
 }
 
-fn size(kind: Kind) -> u8
-    ensures { result ≡ size_of kind }
+// The number of four bytes that begins at a place.
+fn four(b: &[u8], at: usize) -> u32
+    requires { at + 4 ≤ length b.now }
+    ensures { result ≡ four_at b.now at }
 {
-    match kind {
-        Kind::Scope => 6,
-        Kind::Block => 9,
-        Kind::Call => 4,
-        Kind::Edge => 9,
-        Kind::Bar => 8,
-        Kind::Must => 8,
-        Kind::Pair => 9,
-    }
+    u32::from_be_bytes([b[at], b[at + 1], b[at + 2], b[at + 3]])
 }
 
+// No impl of From: the byte and Target are both of other crates.
 fn target(number: u8) -> Target
     ensures { result ≡ target_of number }
 {
@@ -45,20 +33,32 @@ fn target(number: u8) -> Target
     }
 }
 
-fn record(kind: Kind, b: &[u8]) -> Record
+// A fact whose passes begin at a place.
+fn fact(constraint: Constraint, b: &[u8], at: usize) -> Fact
+    requires { at + 4 ≤ length b.now }
+    ensures { result ≡ record { constraint = constraint; first = two_at b.now at; last = two_at b.now (at + 2) } }
+{
+    Fact {
+        constraint,
+        first: two(b, at),
+        last: two(b, at + 2),
+    }
+}
+
+fn fields_of(kind: Kind, b: &[u8]) -> Record
     requires { size_of kind ≤ length b.now }
     ensures { result ≡ fields kind b.now }
 {
     match kind {
         Kind::Scope => Record::AddScope {
-            least: u16::from_be_bytes([b[2], b[3]]),
-            most: u16::from_be_bytes([b[4], b[5]]),
+            least: two(b, 2),
+            most: two(b, 4),
         },
         Kind::Block => Record::AddNode {
             scope: b[2],
             node: Node::Block {
-                time: u32::from_be_bytes([b[3], b[4], b[5], b[6]]),
-                stack: u16::from_be_bytes([b[7], b[8]]),
+                time: four(b, 3),
+                stack: two(b, 7),
             },
         },
         Kind::Call => Record::AddNode {
@@ -75,44 +75,30 @@ fn record(kind: Kind, b: &[u8]) -> Record
         },
         Kind::Bar => Record::AddFact {
             scope: b[2],
-            fact: Fact {
-                constraint: Constraint::Bar(b[3]),
-                first: u16::from_be_bytes([b[4], b[5]]),
-                last: u16::from_be_bytes([b[6], b[7]]),
-            },
+            fact: fact(Constraint::Bar(b[3]), b, 4),
         },
         Kind::Must => Record::AddFact {
             scope: b[2],
-            fact: Fact {
-                constraint: Constraint::Must(b[3]),
-                first: u16::from_be_bytes([b[4], b[5]]),
-                last: u16::from_be_bytes([b[6], b[7]]),
-            },
+            fact: fact(Constraint::Must(b[3]), b, 4),
         },
         Kind::Pair => Record::AddFact {
             scope: b[2],
-            fact: Fact {
-                constraint: Constraint::Pair(b[3], b[4]),
-                first: u16::from_be_bytes([b[5], b[6]]),
-                last: u16::from_be_bytes([b[7], b[8]]),
-            },
+            fact: fact(Constraint::Pair(b[3], b[4]), b, 5),
         },
     }
 }
 
-pub fn front(b: &[u8]) -> Result<Record, Refusal>
-    ensures { result ≡ front_of b.now }
+// The record that the bytes begin with, and the bytes behind it.
+pub fn split_record(b: &[u8]) -> Result<(Record, &[u8]), Refusal>
+    ensures { MatchResult result (λ p. (front_of b.now ≡ Ok p.0) × (p.1.now ≡ drop (one b.now 0) b.now)) (λ e. front_of b.now ≡ Err e) }
 {
     if b.len() < 2 {
         return Err(Refusal::BadRecord);
     }
-    let Some(kind) = kind(b[1]) else {
-        return Err(Refusal::UnknownKind);
-    };
-    let size = size(kind);
-    if b[0] == size && size as usize <= b.len() {
-        Ok(record(kind, b))
-    } else {
-        Err(Refusal::BadRecord)
+    let kind = Kind::try_from(b[1])?;
+    let size = kind.size();
+    if b[0] != size || b.len() < usize::from(size) {
+        return Err(Refusal::BadRecord);
     }
+    Ok((fields_of(kind, b), &b[usize::from(size)..]))
 }
