@@ -2,8 +2,9 @@
 ghost use Rattle.image.specs.Meaning.{meant};
 
 use crate::image::Image;
-use crate::part::{Edges, Facts, Nodes, Scopes};
+use crate::part::Scopes;
 use model::graph::{Edge, Fact, Node};
+use model::lists::{Edges, Facts, Nodes};
 use model::scope_graph::ScopeGraph;
 
 impl<'a> ScopeGraph for Image<'a> {

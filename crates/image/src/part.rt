@@ -10,6 +10,7 @@ ghost use Rattle.image.specs.Found.{passes_found, scopes_found, node_found, node
 
 use crate::record::Record;
 use model::graph::{Edge, Fact, Node};
+use model::lists::{Edges, Facts, Nodes};
 
 // One numbered list of the graph: all scopes, or the nodes, edges or facts of a scope.
 pub trait Part {
@@ -38,7 +39,7 @@ pub trait Part {
 }
 
 // The scopes, by their passes.
-#[derive(Drop)]
+#[derive(Clone, Copy)]
 pub struct Scopes;
 
 impl Part for Scopes {
@@ -68,10 +69,6 @@ impl Part for Scopes {
     }
 }
 
-// The nodes of a scope.
-#[derive(Drop)]
-pub struct Nodes(pub usize);
-
 impl Part for Nodes {
     type Item = Node;
 
@@ -89,7 +86,7 @@ impl Part for Nodes {
 
     fn pick(&self, found: Record) -> Option<Node> {
         match found {
-            Record::AddNode { scope, node } if scope as usize == self.0 => Some(node),
+            Record::AddNode { scope, node } if usize::from(scope) == self.0 => Some(node),
             _ => None,
         }
     }
@@ -98,10 +95,6 @@ impl Part for Nodes {
         Some(self.0)
     }
 }
-
-// The edges of a scope.
-#[derive(Drop)]
-pub struct Edges(pub usize);
 
 impl Part for Edges {
     type Item = Edge;
@@ -120,7 +113,7 @@ impl Part for Edges {
 
     fn pick(&self, found: Record) -> Option<Edge> {
         match found {
-            Record::AddEdge { scope, edge } if scope as usize == self.0 => Some(edge),
+            Record::AddEdge { scope, edge } if usize::from(scope) == self.0 => Some(edge),
             _ => None,
         }
     }
@@ -129,10 +122,6 @@ impl Part for Edges {
         Some(self.0)
     }
 }
-
-// The facts of a scope.
-#[derive(Drop)]
-pub struct Facts(pub usize);
 
 impl Part for Facts {
     type Item = Fact;
@@ -151,7 +140,7 @@ impl Part for Facts {
 
     fn pick(&self, found: Record) -> Option<Fact> {
         match found {
-            Record::AddFact { scope, fact } if scope as usize == self.0 => Some(fact),
+            Record::AddFact { scope, fact } if usize::from(scope) == self.0 => Some(fact),
             _ => None,
         }
     }

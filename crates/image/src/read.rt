@@ -89,6 +89,7 @@ fn fields_of(kind: Kind, b: &[u8]) -> Record
 }
 
 // The record that the bytes begin with, and the bytes behind it.
+#[inline]
 pub fn split_record(b: &[u8]) -> Result<(Record, &[u8]), Refusal>
     ensures { MatchResult result (λ p. (front_of b.now ≡ Ok p.0) × (p.1.now ≡ drop (one b.now 0) b.now)) (λ e. front_of b.now ≡ Err e) }
 {

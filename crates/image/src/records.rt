@@ -23,9 +23,9 @@ fn names_scope(seen: usize, found: Record) -> bool
 {
     match found {
         Record::AddScope { .. } => true,
-        Record::AddNode { scope, .. } => (scope as usize) < seen,
-        Record::AddEdge { scope, .. } => (scope as usize) < seen,
-        Record::AddFact { scope, .. } => (scope as usize) < seen,
+        Record::AddNode { scope, .. }
+        | Record::AddEdge { scope, .. }
+        | Record::AddFact { scope, .. } => usize::from(scope) < seen,
     }
 }
 
@@ -53,6 +53,7 @@ impl<'a> Records<'a> {
     }
 
     // The next record, and what is left behind it.
+    #[inline]
     fn split_first(&self) -> Result<(Record, Records<'a>), Refusal>
         requires { 0 < length self.now.rest.now }
         ensures { MatchResult result (λ p. (left self.now ≡ Ok p.0 ∷ left p.1) × (length p.1.rest.now < length self.now.rest.now)) (λ e. left self.now ≡ Err e ∷ []) }
@@ -76,6 +77,7 @@ impl<'a> Iterator for Records<'a> {
 
     ghost remaining = { λ s. at_most (length s.rest.now) };
 
+    #[inline]
     fn next(&mut self) -> Option<Result<Record, Refusal>> {
         if self.rest.is_empty() {
             return None;
