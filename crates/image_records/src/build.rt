@@ -1,20 +1,25 @@
 // Images from records.
-ghost use Rattle.std.specs.Prelude.{◌≡◌, IfOk, OnOk};
-ghost use Rattle.image_records.specs.Written.{with_record, with_records, headed};
+ghost use Rattle.std.specs.Prelude.{◌≡◌, ◌++◌, IfOk, OnOk};
+ghost use Rattle.image_records.specs.Written.{two, with_record, with_records, headed};
 
 use crate::record::Record;
 use std::alloc::{AllocError, Global};
+
+// Appends what a record begins with, and then a first and a last number of passes.
+fn add_passes(bytes: &mut Vec<u8>, head: &[u8], first: u16, last: u16) -> Result<(), AllocError>
+    ensures { OnOk result (bytes.new.items ≡ ((bytes.old.items ++ head.now) ++ two first) ++ two last) }
+{
+    bytes.extend_from_slice(head)?;
+    bytes.extend_from_slice(&first.to_be_bytes())?;
+    bytes.extend_from_slice(&last.to_be_bytes())
+}
 
 // Appends a record.
 fn add(bytes: &mut Vec<u8>, item: Record) -> Result<(), AllocError>
     ensures { OnOk result (bytes.new.items ≡ with_record bytes.old.items item) }
 {
     match item {
-        Record::Scope(least, most) => {
-            bytes.extend_from_slice(&[6, 1])?;
-            bytes.extend_from_slice(&least.to_be_bytes())?;
-            bytes.extend_from_slice(&most.to_be_bytes())
-        }
+        Record::Scope(least, most) => add_passes(bytes, &[6, 1], least, most),
         Record::Block(scope, time, stack) => {
             bytes.extend_from_slice(&[9, 2, scope])?;
             bytes.extend_from_slice(&time.to_be_bytes())?;
@@ -26,19 +31,13 @@ fn add(bytes: &mut Vec<u8>, item: Record) -> Result<(), AllocError>
             bytes.extend_from_slice(&effect.to_be_bytes())
         }
         Record::Bar(scope, node, first, last) => {
-            bytes.extend_from_slice(&[8, 5, scope, node])?;
-            bytes.extend_from_slice(&first.to_be_bytes())?;
-            bytes.extend_from_slice(&last.to_be_bytes())
+            add_passes(bytes, &[8, 5, scope, node], first, last)
         }
         Record::Must(scope, node, first, last) => {
-            bytes.extend_from_slice(&[8, 6, scope, node])?;
-            bytes.extend_from_slice(&first.to_be_bytes())?;
-            bytes.extend_from_slice(&last.to_be_bytes())
+            add_passes(bytes, &[8, 6, scope, node], first, last)
         }
         Record::Pair(scope, node, other, first, last) => {
-            bytes.extend_from_slice(&[9, 7, scope, node, other])?;
-            bytes.extend_from_slice(&first.to_be_bytes())?;
-            bytes.extend_from_slice(&last.to_be_bytes())
+            add_passes(bytes, &[9, 7, scope, node, other], first, last)
         }
     }
 }
@@ -57,11 +56,7 @@ pub fn add_all(bytes: &mut Vec<u8>, records: &[Record]) -> Result<(), AllocError
 pub fn image(heap: Global, records: &[u8]) -> Result<Vec<u8>, AllocError>
     ensures { IfOk result (λ v. v.items ≡ headed records.now) }
 {
-    let len = if records.len() < 4_294_967_290 {
-        records.len() as u32 + 5
-    } else {
-        4_294_967_295
-    };
+    let len = u32::try_from(records.len().saturating_add(5)).unwrap_or(u32::MAX);
     let mut bytes = Vec::from_slice(heap, &[1])?;
     bytes.extend_from_slice(&len.to_be_bytes())?;
     bytes.extend_from_slice(records)?;

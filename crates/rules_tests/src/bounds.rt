@@ -1,14 +1,19 @@
 // The analysis of graphs in images.
-use crate::record::Record::{Bar, Block, Call, Edge, Scope};
-use crate::record::{AGAIN, LEAVE, Record, image};
+use crate::images::image;
 use analysis::analyze::analyze;
 use image::open::open;
+use image_records::record::Record::{Bar, Block, Call, Edge, Scope};
+use image_records::record::{AGAIN, LEAVE, Record};
 use measures::cycles::Cycles;
 use model::trail::Line;
 use std::test::Fail;
 
 // The bound in cycles, or the number of the refusal.
-fn answer(rt: &HostRuntime, work: &mut [Cycles], records: &[Record]) -> Result<(u64, u8), Fail> {
+fn answer(
+    rt: &HostRuntime,
+    work: &mut [Cycles],
+    records: &[Record],
+) -> Result<Result<u64, u8>, Fail> {
     let bytes = image(rt, &[(1, records)])?;
     let graph = open(bytes.as_slice())?;
     let mut trail = [Line {
@@ -16,14 +21,15 @@ fn answer(rt: &HostRuntime, work: &mut [Cycles], records: &[Record]) -> Result<(
         a: 9,
         b: 9,
     }; 1324];
-    match analyze(&graph, work, &mut trail) {
-        Ok(bound) => Ok((bound.count, 0)),
-        Err(refusal) => Ok((0, refusal.number())),
-    }
+    Ok(
+        analyze(&graph, work, &mut trail)
+            .map(|bound| bound.count)
+            .map_err(|refusal| refusal.number()),
+    )
 }
 
 // Four scopes of 65,535 passes, nested around a block of this time.
-fn nested(rt: &HostRuntime, time: u32) -> Result<(u64, u8), Fail> {
+fn nested(rt: &HostRuntime, time: u32) -> Result<Result<u64, u8>, Fail> {
     let deep = Scope(65535, 65535);
     let mut work = [Cycles { count: 0 }; 128];
     let records = [
@@ -34,7 +40,7 @@ fn nested(rt: &HostRuntime, time: u32) -> Result<(u64, u8), Fail> {
         Call(0, 1),
         Call(1, 2),
         Call(2, 3),
-        Block(3, time),
+        Block(3, time, 0),
         Edge(0, 0, AGAIN, 0),
         Edge(0, 0, LEAVE, 0),
         Edge(1, 0, AGAIN, 0),
@@ -49,21 +55,21 @@ fn nested(rt: &HostRuntime, time: u32) -> Result<(u64, u8), Fail> {
 
 #[test]
 fn deep_loops(rt: HostRuntime) -> Result<(), Fail> {
-    assert_eq!(rt; nested(&rt, 1)?, (18445618199572250625, 0));
-    assert_eq!(rt; nested(&rt, 2)?, (18446744073709551615, 0));
+    assert_eq!(rt; nested(&rt, 1)?, Ok(18445618199572250625));
+    assert_eq!(rt; nested(&rt, 2)?, Ok(18446744073709551615));
     Ok(())
 }
 
 #[test]
 fn tables(rt: HostRuntime) -> Result<(), Fail> {
-    let records = [Scope(1, 1), Block(0, 7), Edge(0, 0, LEAVE, -2)];
+    let records = [Scope(1, 1), Block(0, 7, 0), Edge(0, 0, LEAVE, -2)];
     assert_eq!(rt;
         answer(&rt, &mut [Cycles { count: 0 }; 127], &records)?,
-        (0, 41)
+        Err(41)
     );
     assert_eq!(rt;
         answer(&rt, &mut [Cycles { count: 0 }; 128], &records)?,
-        (5, 0)
+        Ok(5)
     );
     Ok(())
 }
@@ -72,13 +78,13 @@ fn tables(rt: HostRuntime) -> Result<(), Fail> {
 fn no_run(rt: HostRuntime) -> Result<(), Fail> {
     let records = [
         Scope(1, 1),
-        Block(0, 7),
+        Block(0, 7, 0),
         Edge(0, 0, LEAVE, 0),
         Bar(0, 0, 1, 1),
     ];
     assert_eq!(rt;
         answer(&rt, &mut [Cycles { count: 0 }; 128], &records)?,
-        (0, 43)
+        Err(43)
     );
     Ok(())
 }

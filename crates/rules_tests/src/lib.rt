@@ -6,10 +6,10 @@ mod alone;
 #[cfg(test)]
 mod bounds;
 #[cfg(test)]
+mod images;
+#[cfg(test)]
 mod limits;
 #[cfg(test)]
 mod orders;
 #[cfg(test)]
 mod pairs;
-#[cfg(test)]
-mod record;
