@@ -1,14 +1,13 @@
 -- Records read one after the other.
-use Rattle.std.proofs.Common.{◌≡◌, ℕ, zero, suc, pred, ◌+◌, ◌<◌, ◌≤◌, true, false, ltb, List, [], ◌∷◌, length, drop, Some, None, Ok, Err, Option, Result, refl, ap, ◌∙◌, ⊎_elim, arith}
+use Rattle.std.proofs.Common.{◌≡◌, ℕ, zero, suc, pred, ◌<◌, ◌≤◌, true, ltb, List, [], ◌∷◌, length, drop, Some, None, Ok, Err, Option, Result, refl, ap, ◌∙◌, ⊎_elim, arith}
 use Rattle.std.proofs.lemmas.Bool.{cases_Bool}
 use Rattle.std.proofs.lemmas.Bool.Decides.{nat_tests}
 use Rattle.std.specs.List.{cons_option, filter_map}
 use Rattle.model.specs.declared.refusal.Refusal.{Refusal}
-use Rattle.model.specs.declared.refusal.Refusal.TheVariants.{UnknownScope, BadRecord}
+use Rattle.model.specs.declared.refusal.Refusal.TheVariants.{BadRecord}
 use Rattle.image.specs.declared.record.Kind.{Kind}
 use Rattle.image.specs.declared.record.Kind.TheVariants.{Scope, Block, Call, Edge, Bar, Must, Pair}
 use Rattle.image.specs.declared.record.Record.{Record}
-use Rattle.image.specs.declared.record.Record.TheVariants.{AddScope, AddNode, AddEdge, AddFact}
 use Rattle.image.specs.Layout.{one, size_of, kind_of, of_kind, front_of}
 use Rattle.image.specs.Meaning.{Reading, read, going, placed, more, records, fault_of}
 use Rattle.image.specs.Meaning.Reading.{end, fault, next}
@@ -42,25 +41,15 @@ past_record : (b seen : ℕ) (bs : List ℕ) → 1 ≤ b → read (pred b) seen 
 past_record zero seen bs h = absurd (omega arith)
 past_record (suc k) seen bs h = read_skip k seen bs
 
--- the three ways of a step
+-- a record that is faulty, and one that is well formed
 pub is_fault : (bs : List ℕ) (seen : ℕ) (e : Refusal) → 0 < length bs → front_of bs ≡ Err e → read 0 seen bs ≡ fault e
 is_fault [] seen e h f = absurd (omega arith)
 is_fault (b ∷ bs) seen e h f = ap (λ (x : Result Record Refusal). going x seen (λ n. read (pred b) n bs)) f
-
-pub is_misplaced : (bs : List ℕ) (seen : ℕ) (r : Record) → 0 < length bs → front_of bs ≡ Ok r → placed seen r ≡ false → read 0 seen bs ≡ fault UnknownScope
-is_misplaced [] seen r h f p = absurd (omega arith)
-is_misplaced (b ∷ bs) seen r h f p = ap (λ (x : Result Record Refusal). going x seen (λ n. read (pred b) n bs)) f ∙ rw p
 
 pub is_next : (bs : List ℕ) (seen : ℕ) (r : Record) → 0 < length bs → front_of bs ≡ Ok r → placed seen r ≡ true → read 0 seen bs ≡ next r (read 0 (more seen r) (drop (one bs 0) bs))
 is_next [] seen r h f p = absurd (omega arith)
 is_next (b ∷ bs) seen r h f p =
     ap (λ (x : Result Record Refusal). going x seen (λ n. read (pred b) n bs)) f ∙ rw p (ap (next r) (past_record b (more seen r) bs (front_size (b ∷ bs) r f).0))
-
-pub more_at_most : (seen : ℕ) (r : Record) → more seen r ≤ seen + 1
-more_at_most seen (AddScope l m) = omega arith
-more_at_most seen (AddNode s n) = omega arith
-more_at_most seen (AddEdge s e) = omega arith
-more_at_most seen (AddFact s f) = omega arith
 
 -- what f finds in a record that was read
 abbrev pub found : {X : Type 0} → (Record → Option X) → Result Record Refusal → Option X

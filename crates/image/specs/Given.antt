@@ -13,5 +13,5 @@ given (fault e) = Err e ∷ []
 given (next r x) = Ok r ∷ given x
 
 -- what a reader has still to give
-unfoldable pub left : Records → List (Result Record Refusal)
+abbrev pub left : Records → List (Result Record Refusal)
 left s = given (read 0 s.seen s.rest.now)
