@@ -1,17 +1,10 @@
-use Rattle.std.proofs.Common.{◌+◌, length, ap, ◌∙◌, arith}
-use Rattle.std.proofs.lemmas.List.{take_all}
-use Rattle.model.specs.Trail.{group_lines}
+use Rattle.std.proofs.Common.{arith}
 use Rattle.plain.specs.Copies.{scope_of}
 use Rattle.trail.specs.Groups.{group_of, groups_of}
-use Rattle.trail.specs.Sections.{written}
-use Rattle.trail.proofs.Held.{held_length, held_at}
+use Rattle.trail.proofs.Held.{held_at}
 use Rattle.trail.proofs.Lengths.{held_short}
-use Rattle.trail.proofs.Written.{written_none}
 use Rattle.trail.proofs.Stepped.{group_fits, group_end, group_step}
 use Rattle.trail.proofs.lines.write_groups.Goals as goal
-
-pub loop-group-init : goal.loop-group-init
-loop-group-init c = (omega arith, written_none c.args.trail.now c.args.at)
 
 pub write_group-end-requires : goal.write_group-end-requires
 write_group-end-requires c =
@@ -30,14 +23,3 @@ loop-group-preserved c =
       group_end s gs i x c.args.at c.loop-group.end _ there c.loop-group.invariant.0 c.write_group-end.ensures.end,
       group_step s c.args.trail.now c.loop-group.trail _ c.args.at c.loop-group.end gs i x there (omega (arith, c.requires)) c.loop-group.invariant.0 c.loop-group.invariant.1 c.write_group-end.ensures.lines,
     )
-
-pub returns : goal.returns
-returns c =
-    let s = scope_of c.args.scope.now in
-    let n = held_length c.args.groups.now in
-    let m = ap length c.as_slice-group-items.ensures in
-    let all = take_all c.loop-group.group-index (groups_of c.args.groups.now) (omega (arith, c.loop-group-test.false)) in
-    record {
-      lines = c.loop-group.invariant.1 ∙ ap (λ l. written c.args.trail.now c.args.at (group_lines s l)) all;
-      end = c.loop-group.invariant.0 ∙ ap (λ l. c.args.at + length (group_lines s l)) all;
-    }
