@@ -1,15 +1,10 @@
-use Rattle.std.proofs.Common.{◌<◌, length, get_or, pos, sym, subst}
+use Rattle.std.proofs.Common.{◌<◌, get_or, pos, sym, subst}
 use Rattle.model.specs.declared.graph.Edge.{Edge}
 use Rattle.model.specs.declared.graph.Target.TheVariants.{To}
 use Rattle.search.specs.Flows.{edges_of}
 use Rattle.search.specs.Ways.{way_edges}
 use Rattle.search.proofs.Followed.{Underway, left_from, taking, underway_done}
 use Rattle.search.proofs.follow.follow.Goals as goal
-
-pub bounds-edges-edge : goal.bounds-edges-edge
-bounds-edges-edge c =
-    subst (λ xs. c.in-Some.edge < length xs) (sym c.as_slice-edges.ensures)
-    (taking c.args.flow.now c.args.choices.now _ _ _ _ c.requires.guides c.loop-place.invariant c.in-To.is c.in-Some.is (record { from = 0; to = To 0; effect = pos 0 })).0
 
 pub loop-place-smaller : goal.loop-place-smaller
 loop-place-smaller c =

@@ -1,14 +1,7 @@
-use Rattle.std.proofs.Common.{◌≡◌, ◌/◌, sym, ap, ◌∙◌, arith}
-use Rattle.model.specs.Best.{power}
+use Rattle.std.proofs.Common.{◌/◌, ◌∙◌, arith}
 use Rattle.search.proofs.Squares.{even_turn, odd_turn}
 use Rattle.search.proofs.power.power_of.Goals as goal
 use Rattle.search.proofs.power.power_of.Goals.{then-left-eq1, else-left-eq1}
-
-pub loop-left-init : goal.loop-left-init
-loop-left-init g c =
-    let m = g.C.Cost.measure in
-    let whole = power m c.args.cost c.args.times in
-    ap (λ x. m.join x whole) c.nothing-sum.ensures ∙ g.C.Cost.laws.left whole
 
 pub loop-left-preserved : goal.loop-left-preserved
 loop-left-preserved g c =
@@ -22,10 +15,3 @@ loop-left-preserved g c =
           rw (w.sum-is, c.join-square.ensures)
           (even_turn laws l.sum l.square l.left (l.left / 2) (omega (arith, w.if-left-eq1.false)) ∙ l.invariant)
     ]
-
-pub returns : goal.returns
-returns g c =
-    let m = g.C.Cost.measure in
-    let l = c.loop-left in
-    let none : l.left ≡ 0 = omega arith in
-    sym (g.C.Cost.laws.right l.sum) ∙ ap (λ n. m.join l.sum (power m l.square n)) (sym none) ∙ l.invariant
