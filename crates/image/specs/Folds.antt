@@ -10,7 +10,8 @@ use Rattle.model.specs.declared.graph.Fact.{Fact}
 use Rattle.model.specs.Graph.{Scope}
 use Rattle.image.specs.declared.record.Record.{Record}
 use Rattle.image.specs.declared.record.Record.TheVariants.{AddScope, AddNode, AddEdge, AddFact}
-use Rattle.image.specs.Meaning.{placed, more, records, reading, change, with_node, with_edge, with_fact, add, built, meant}
+use Rattle.image.specs.Meaning.{placed, more, records, reading, add, built, meant}
+use Rattle.model.specs.Changes.{change, with_node, with_edge, with_fact}
 use Rattle.image.specs.Parts.{passes_in, node_in, edge_in, fact_in}
 use Rattle.image.specs.Graphs.{scope_of, scopes_from, graph_of, Placed, placed_read, count_more, none_past, node_out, edge_out, fact_out}
 

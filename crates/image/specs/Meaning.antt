@@ -1,10 +1,8 @@
 -- The records of an image, and the graph that they describe.
 use Rattle.std.specs.Prelude.{ℕ, zero, suc, pred, ◌+◌, Bool, true, cond, not, ◌||◌, List, [], ◌∷◌, ◌++◌, length, drop, Some, None, Ok, Err, Option, Result, ◌==◌, nat_lt}
-use Rattle.model.specs.declared.graph.Node.{Node}
-use Rattle.model.specs.declared.graph.Edge.{Edge}
-use Rattle.model.specs.declared.graph.Fact.{Fact}
 use Rattle.model.specs.declared.refusal.Refusal.{Refusal}
 use Rattle.model.specs.declared.refusal.Refusal.TheVariants.{TooShort, BadVersion, BadLength, UnknownScope}
+use Rattle.model.specs.Changes.{change, empty_scope, with_node, with_edge, with_fact}
 use Rattle.model.specs.Graph.{Scope}
 use Rattle.image.specs.declared.record.Record.{Record}
 use Rattle.image.specs.declared.record.Record.TheVariants.{AddScope, AddNode, AddEdge, AddFact}
@@ -50,24 +48,9 @@ fault_of end = None
 fault_of (fault e) = Some e
 fault_of (next r x) = fault_of x
 
--- scope number s, changed
-abbrev pub change : {X : Type 0} → ℕ → (X → X) → List X → List X
-change s f [] = []
-change zero f (x ∷ xs) = f x ∷ xs
-change (suc s) f (x ∷ xs) = x ∷ change s f xs
-
-abbrev pub with_node : Node → Scope → Scope
-with_node n x = record { least = x.least; most = x.most; nodes = x.nodes ++ (n ∷ []); edges = x.edges; facts = x.facts }
-
-abbrev pub with_edge : Edge → Scope → Scope
-with_edge e x = record { least = x.least; most = x.most; nodes = x.nodes; edges = x.edges ++ (e ∷ []); facts = x.facts }
-
-abbrev pub with_fact : Fact → Scope → Scope
-with_fact f x = record { least = x.least; most = x.most; nodes = x.nodes; edges = x.edges; facts = x.facts ++ (f ∷ []) }
-
 -- a record adds a scope, or a part to a scope
 abbrev pub add : List Scope → Record → List Scope
-add g (AddScope l m) = g ++ (record { least = l; most = m; nodes = []; edges = []; facts = [] } ∷ [])
+add g (AddScope l m) = g ++ (empty_scope l m ∷ [])
 add g (AddNode s n) = change s (with_node n) g
 add g (AddEdge s e) = change s (with_edge e) g
 add g (AddFact s f) = change s (with_fact f) g
