@@ -2,8 +2,9 @@
 use Rattle.std.specs.Prelude.{◌≡◌, ℕ, zero, suc, ◌+◌, ◌≤◌, true, List, [], ◌∷◌, ◌++◌, length, drop, Some, None, Option, ◌≢◌, refl}
 use Rattle.std.proofs.Common.{sym, ap, subst, ◌∙◌, arith, zero-add, add-zero}
 use Rattle.std.proofs.lemmas.List.{append-nil, append_assoc, length-append}
+use Rattle.std.proofs.lemmas.List.Elements.{filter_map-append}
 use Rattle.std.proofs.lemmas.Bool.{ne_eqb, eq-eqb}
-use Rattle.std.specs.List.{cons_option, filter_map}
+use Rattle.std.specs.List.{filter_map}
 use Rattle.model.specs.declared.graph.Node.{Node}
 use Rattle.model.specs.declared.graph.Edge.{Edge}
 use Rattle.model.specs.declared.graph.Fact.{Fact}
@@ -15,19 +16,11 @@ use Rattle.model.specs.Changes.{change, with_node, with_edge, with_fact}
 use Rattle.image.specs.Parts.{passes_in, node_in, edge_in, fact_in}
 use Rattle.image.specs.Graphs.{scope_of, scopes_from, graph_of, Placed, placed_read, count_more, none_past, node_out, edge_out, fact_out}
 
-push_option : {X : Type 0} (o : Option X) (xs ys : List X) → cons_option o (xs ++ ys) ≡ cons_option o xs ++ ys
-push_option None xs ys = refl
-push_option (Some x) xs ys = refl
-
-found_push : {X : Type 0} (f : Record → Option X) (rs : List Record) (r : Record) → filter_map f (rs ++ (r ∷ [])) ≡ filter_map f rs ++ cons_option (f r) []
-found_push f [] r = refl
-found_push f (x ∷ rs) r = ap (cons_option (f x)) (found_push f rs r) ∙ push_option (f x) (filter_map f rs) (cons_option (f r) [])
-
 found_same : {X : Type 0} (f : Record → Option X) (rs : List Record) (r : Record) → f r ≡ None → filter_map f (rs ++ (r ∷ [])) ≡ filter_map f rs
-found_same f rs r e = found_push f rs r ∙ (rw e (append-nil (filter_map f rs)))
+found_same f rs r e = filter_map-append f rs (r ∷ []) ∙ (rw e (append-nil (filter_map f rs)))
 
 found_more : {X : Type 0} (f : Record → Option X) (rs : List Record) (r : Record) (x : X) → f r ≡ Some x → filter_map f (rs ++ (r ∷ [])) ≡ filter_map f rs ++ (x ∷ [])
-found_more f rs r x e = found_push f rs r ∙ (rw e refl)
+found_more f rs r x e = filter_map-append f rs (r ∷ []) ∙ (rw e refl)
 
 abbrev whole : ℕ × ℕ → List Node → List Edge → List Fact → Scope
 whole p ns es fs = record { least = p.0; most = p.1; nodes = ns; edges = es; facts = fs }

@@ -69,6 +69,7 @@ impl Part for Scopes {
     }
 }
 
+// Not one generic impl: the look-ups and laws of nodes, edges and facts each have a name of their own.
 impl Part for Nodes {
     type Item = Node;
 

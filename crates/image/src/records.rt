@@ -77,6 +77,7 @@ impl<'a> Iterator for Records<'a> {
 
     ghost remaining = { λ s. at_most (length s.rest.now) };
 
+    // inlined, as all that it calls: each look-up goes over the records
     #[inline]
     fn next(&mut self) -> Option<Result<Record, Refusal>> {
         if self.rest.is_empty() {
