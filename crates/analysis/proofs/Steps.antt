@@ -1,5 +1,5 @@
 -- The scope at place k of the order, worked out and written down, is settled.
-use Rattle.std.proofs.Common.{◌≡◌, ℕ, zero, suc, ◌+◌, ◌*◌, ◌<◌, ◌≤◌, Bool, true, false, cond, leb, List, [], ◌∷◌, ◌++◌, length, get_or, drop, set, replicate, Some, None, Option, sym, refl, ap, ◌∙◌, subst, inl, inr, arith, length-set, get_or-set_other, get_or-set_same}
+use Rattle.std.proofs.Common.{◌≡◌, ℕ, zero, suc, ◌+◌, ◌*◌, ◌<◌, ◌≤◌, Bool, true, false, cond, leb, List, [], ◌∷◌, ◌++◌, length, get_or, drop, set, replicate, Some, None, Option, Err, sym, refl, ◌∙◌, subst, inl, inr, arith, get_or-set_other, get_or-set_same}
 use lib.ListN.{length-replicate}
 use Rattle.std.specs.List.{slice_get}
 use Rattle.model.specs.declared.graph.Node.TheVariants.{Call}
@@ -22,8 +22,8 @@ use Rattle.trail.specs.Groups.{groups_of}
 use Rattle.trail.specs.Sections.{written}
 use Rattle.trail.proofs.Lengths.{length_section}
 use Rattle.trail.proofs.Sections.{section_put}
-use Rattle.bound.specs.declared.outcome.Outcome.TheVariants.{Unfit}
-use Rattle.bound.specs.declared.outcome.Solution.{Solution}
+use Rattle.bound.specs.declared.solution.Solution.{Solution}
+use Rattle.bound.specs.declared.solution.Unfit.{Unfit}
 use Rattle.bound.specs.Choices.{last_groups, IsPlaced}
 use Rattle.bound.specs.Solves.{IsRunsBest, IsSolution, Solves}
 use Rattle.bound.proofs.Candidates.{choice_plan}
@@ -96,8 +96,8 @@ module _ {C : Type 0} {m : Measure C} (laws : Laws m) (g : List Scope) (kept : K
             (subst (λ p. IsPlan m s value p (sol.fronts ++ last_groups sol.choice.first sol.choice.passes (way_edges sol.choice.on) (way_edges sol.choice.off)) sol.choice.cost) (sym sol.passes) (choice_plan s value sol.fronts sol.choice sol.stands)))
 
   -- it is never unfit
-  pub fit : (room : ℕ) → 32 ≤ room → Solves m s value room Unfit → ⊥
-  fit room enough h = h enough (λ j f q. first_last g kept number s there j f q) (least_some g kept number s there)
+  pub fit : (room : ℕ) (e : Unfit) → 32 ≤ room → Solves m s value room (Err e) → ⊥
+  fit room e enough h = h enough (λ j f q. first_last g kept number s there j f q) (least_some g kept number s there)
 
 -- a scope below the count is there
 pub scope_there : (g : List Scope) (i : ℕ) → i < length g → (s : Scope) × (slice_get g i ≡ Some s)
@@ -105,35 +105,35 @@ scope_there [] i h = absurd (omega arith)
 scope_there (x ∷ g) zero h = (x, refl)
 scope_there (x ∷ g) (suc i) h = scope_there g i (omega arith)
 
+-- places and numbers of the order are few
+pub place_few : (g : List Scope) → KeepsFrom 22 g → (k : ℕ) → k < length g → k < 16
+place_few g kept k within = let b = few_scopes g kept in omega arith
+
+pub number_few : (g : List Scope) → KeepsFrom 22 g → (order : List ℕ) → CalledFirst g order → (k : ℕ) → k < length g → get_or order k 0 < 16
+number_few g kept order first k within = let a = first.within k within in let b = few_scopes g kept in omega arith
+
 -- what the calls that write it down leave
 module _ {C : Type 0} {m : Measure C} (laws : Laws m) (g : List Scope) (kept : KeepsFrom 22 g) (order : List ℕ) (first : CalledFirst g order) (k : ℕ) (within : k < length g)
     (s : Scope) (there : slice_get g (get_or order k 0) ≡ Some s) (bounds : List C) (trail trail' : List Line) (solved : List Bool) (few : length bounds ≡ 16) (marks : length solved ≡ 16)
-    (settled : AreSettled m g bounds trail solved order k) (lines : size * length g ≤ length trail) (bounds' : List C) (solved' : List Bool) (done : Bool) (fits : done ≡ leb (size * (get_or order k 0 + 1)) (length trail)) where
+    (settled : AreSettled m g bounds trail solved order k) (lines : size * length g ≤ length trail) (done : Bool) (fits : done ≡ leb (size * (get_or order k 0 + 1)) (length trail)) where
   enough : size * (get_or order k 0 + 1) ≤ length trail
   enough = let a = first.within k within in omega arith
 
-  abbrev Stepped : Type 0
-  Stepped = (length solved' ≡ 16) × AreSettled m g bounds' trail' solved' order (k + 1) × (drop (size * length g) trail' ≡ drop (size * length g) trail)
-
-  still_wide : (v : Bool) → solved' ≡ set solved (get_or order k 0) v → length solved' ≡ 16
-  still_wide v d = ap length d ∙ length-set solved (get_or order k 0) v ∙ marks
+  abbrev Stepped : C → Bool → Type 0
+  Stepped c mark = AreSettled m g (set bounds (get_or order k 0) c) trail' (set solved (get_or order k 0) mark) order (k + 1) × (drop (size * length g) trail' ≡ drop (size * length g) trail)
 
   pub stepped_bound : (x : Solution C) → IsRunsBest m s (edge_value_lem (capped m) (bound_at bounds solved) s) (Some x.cost) → IsSolution m s (edge_value_lem (capped m) (bound_at bounds solved) s) x →
-      trail' ≡ cond done (written trail (size * get_or order k 0) (padded (section_lines s x.passes (groups_of x.groups)))) trail → bounds' ≡ set bounds (get_or order k 0) x.cost → solved' ≡ set solved (get_or order k 0) true → Stepped
-  stepped_bound x best sol table b d =
+      trail' ≡ cond done (written trail (size * get_or order k 0) (padded (section_lines s x.passes (groups_of x.groups)))) trail → Stepped x.cost true
+  stepped_bound x best sol table =
       let put = (section_put trail (get_or order k 0) (padded (section_lines s x.passes (groups_of x.groups))) (length_section s x.passes x.groups) enough done trail' fits table).1 in (
-        still_wide true d,
-        subst (λ bs. AreSettled m g bs trail' solved' order (k + 1)) (sym b) (subst (λ ms. AreSettled m g (set bounds (get_or order k 0) x.cost) trail' ms order (k + 1)) (sym d)
-            (bound_settled laws g kept order first k within s there bounds trail trail' solved few marks put.others settled x.cost true refl x refl best sol put.there)),
+        bound_settled laws g kept order first k within s there bounds trail trail' solved few marks put.others settled x.cost true refl x refl best sol put.there,
         put.rest (length g) (first.within k within),
       )
 
   pub stepped_none : (c : C) → c ≡ m.nothing → IsRunsBest m s (edge_value_lem (capped m) (bound_at bounds solved) s) None →
-      trail' ≡ cond done (written trail (size * get_or order k 0) (replicate size (line 0 0 0))) trail → bounds' ≡ set bounds (get_or order k 0) c → solved' ≡ set solved (get_or order k 0) false → Stepped
-  stepped_none c nothing none table b d =
+      trail' ≡ cond done (written trail (size * get_or order k 0) (replicate size (line 0 0 0))) trail → Stepped c false
+  stepped_none c nothing none table =
       let put = (section_put trail (get_or order k 0) (replicate size (line 0 0 0)) (length-replicate size (line 0 0 0)) enough done trail' fits table).1 in (
-        still_wide false d,
-        subst (λ bs. AreSettled m g bs trail' solved' order (k + 1)) (sym b) (subst (λ ms. AreSettled m g (set bounds (get_or order k 0) c) trail' ms order (k + 1)) (sym d)
-            (no_run_settled laws g kept order first k within s there bounds trail trail' solved few marks put.others settled c false refl nothing none put.there)),
+        no_run_settled laws g kept order first k within s there bounds trail trail' solved few marks put.others settled c false refl nothing none put.there,
         put.rest (length g) (first.within k within),
       )

@@ -13,7 +13,3 @@ module _ {C : Type 0} (m : Measure C) (g : List Scope) (work : List C) (trail : 
   -- the first k scopes of the order are settled
   abbrev pub AreSettled : List ℕ → ℕ → Type 0
   AreSettled order k = (l : ℕ) → l < k → Settled (slice_index order l)
-
--- the two lists have the same first n costs
-abbrev pub Agree : {C : Type 0} → C → List C → List C → ℕ → Type 0
-Agree c xs ys n = (i : ℕ) → i < n → slice_index_or xs i c ≡ slice_index_or ys i c

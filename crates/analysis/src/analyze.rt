@@ -1,34 +1,16 @@
 // The worst-case analysis.
-ghost use Rattle.std.specs.Prelude.{◌≤◌, length};
 ghost use Rattle.model.specs.Analysis.{Analyzed};
-ghost use Rattle.plain.specs.Bounds.{bounds_of};
-ghost use Rattle.analysis.specs.States.{Agree};
 
 use crate::all::settle_all;
 use model::cost::Cost;
 use model::refusal::Refusal;
 use model::scope_graph::ScopeGraph;
-use model::trail::Line;
-use plain::bounds::Bounds;
+use model::trail::{Line, SECTION};
 use rules::judge::first_broken;
 use rules::order::call_order;
 
-// The lines of a section of the trail.
-const SECTION: usize = 331;
-// The least work table.
-const WORK: usize = 128;
-
-// The bounds go to the places of their scopes in the work table.
-fn write_bounds<C: Cost>(bounds: &Bounds<C>, work: &mut [C])
-    requires { 16 ≤ length work.old }
-    ensures { Agree C.measure.nothing work.new (bounds_of bounds.now) 16 }
-{
-    for scope in 0..16 {
-        if let Some(bound) = bounds.get(scope) {
-            work[scope] = bound;
-        }
-    }
-}
+// The least work table. Its first 16 places are for the bounds of the scopes, the others for the search.
+pub const WORK: usize = 128;
 
 // The bound of scope 0, with the bound of every scope in the work table and a worst-case run of each in the trail.
 pub fn analyze<C: Cost, G: ScopeGraph>(
@@ -50,10 +32,10 @@ pub fn analyze<C: Cost, G: ScopeGraph>(
     let Some(order) = call_order(graph) else {
         return Err(Refusal::CallRing);
     };
-    let marks = settle_all(graph, &order, work, trail);
-    write_bounds(&marks.bounds, work);
-    if marks.solved[0] {
-        Ok(work[0])
+    let (bounds, table) = work.split_at_mut(16);
+    let solved = settle_all(graph, &order, bounds, table, trail);
+    if solved[0] {
+        Ok(bounds[0])
     } else {
         Err(Refusal::NoRun)
     }

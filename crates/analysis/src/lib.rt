@@ -3,5 +3,4 @@
 
 mod all;
 pub mod analyze;
-mod marks;
 mod settle;

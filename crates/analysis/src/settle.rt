@@ -2,76 +2,60 @@
 ghost use Rattle.std.specs.Prelude.{◌≡◌, ◌+◌, ◌*◌, ◌<◌, ◌≤◌, length, drop};
 ghost use Rattle.model.specs.Rules.{KeepsFrom};
 ghost use Rattle.model.specs.Trail.{size};
-ghost use Rattle.model.specs.Ways.{edge_value_lem};
-ghost use Rattle.plain.specs.Bounds.{bounds_of};
-ghost use Rattle.plain.specs.Copies.{scope_of};
-ghost use Rattle.plain.specs.Values.{bound_at, capped};
 ghost use Rattle.rules.specs.CallOrders.{CalledFirst};
-ghost use Rattle.bound.specs.Solves.{Solves};
 ghost use Rattle.analysis.specs.States.{AreSettled};
 
-use crate::marks::{Marks, noted};
-use bound::outcome::Outcome;
+use bound::solution::Unfit;
 use bound::solve::solve;
 use model::cost::Cost;
 use model::scope_graph::ScopeGraph;
 use model::trail::Line;
-use plain::bounds::Bounds;
 use plain::copy::copy_scope;
 use plain::edge_value::ScopeValues;
-use plain::plain_scope::PlainScope;
 use trail::write::{clear_section, write_section};
 
-// The bound of a scope by those of the scopes that it calls.
-fn bound_by<'a, C: Cost>(
-    scope: &'a PlainScope,
-    bounds: &'a Bounds<C>,
-    solved: &'a [bool; 16],
-    work: &mut [C],
-) -> Outcome<C>
-    ensures { Solves C.measure (scope_of scope.now) (edge_value_lem (capped C.measure) (bound_at (bounds_of bounds.now) solved.now) (scope_of scope.now)) (length work.old) result }
-{
-    let values = ScopeValues {
-        scope,
-        bounds,
-        solved,
-    };
-    solve(scope, &values, work)
-}
-
-// The scope at this place of the order, worked out and written down.
+// The scope at this place of the order, worked out by the bounds of the scopes that it calls, and written down.
+#[tactic(auto, using(crate::proofs::Steps::number_few))]
 pub fn settle<C: Cost, G: ScopeGraph>(
     graph: &G,
     order: &[u8; 16],
     place: usize,
-    marks: Marks<C>,
-    work: &mut [C],
+    bounds: &mut [C],
+    solved: &mut [bool; 16],
+    table: &mut [C],
     trail: &mut [Line],
-) -> Marks<C>
+)
     requires keeps { KeepsFrom 22 (G.ScopeGraph.graph graph.now) }
     requires ordered { CalledFirst (G.ScopeGraph.graph graph.now) order.now }
     requires within { place < length (G.ScopeGraph.graph graph.now) }
-    requires room { 32 ≤ length work.old }
+    requires places { length bounds.old ≡ 16 }
+    requires room { 32 ≤ length table.old }
     requires lines { size * length (G.ScopeGraph.graph graph.now) ≤ length trail.old }
-    requires wide { length marks.solved ≡ 16 }
-    requires sofar { AreSettled C.measure (G.ScopeGraph.graph graph.now) (bounds_of marks.bounds) trail.old marks.solved order.now place }
-    ensures wide { length result.solved ≡ 16 }
-    ensures sofar { AreSettled C.measure (G.ScopeGraph.graph graph.now) (bounds_of result.bounds) trail.new result.solved order.now (place + 1) }
+    requires sofar { AreSettled C.measure (G.ScopeGraph.graph graph.now) bounds.old trail.old solved.old order.now place }
+    ensures sofar { AreSettled C.measure (G.ScopeGraph.graph graph.now) bounds.new trail.new solved.new order.now (place + 1) }
     ensures rest { drop (size * length (G.ScopeGraph.graph graph.now)) trail.new ≡ drop (size * length (G.ScopeGraph.graph graph.now)) trail.old }
 {
     let number = order[place] as usize;
     let Some(scope) = copy_scope(graph, number) else {
-        return marks;
+        return;
     };
-    match bound_by(&scope, &marks.bounds, &marks.solved, work) {
-        Outcome::Bound(run) => {
+    let values = ScopeValues {
+        scope: &scope,
+        bounds,
+        solved,
+    };
+    match solve(&scope, &values, table) {
+        Ok(Some(run)) => {
             write_section(trail, number, &scope, run.passes, &run.groups);
-            noted(marks, number, run.cost, true)
+            bounds[number] = run.cost;
+            solved[number] = true;
         }
-        Outcome::NoRun => {
+        Ok(None) => {
             clear_section(trail, number);
-            noted(marks, number, C::nothing(), false)
+            bounds[number] = C::nothing();
+            solved[number] = false;
         }
-        Outcome::Unfit => marks,
+        // what keeps the rules is fit
+        Err(Unfit) => {}
     }
 }

@@ -2,6 +2,5 @@ pub mod Candidates
 pub mod CutCounts
 pub mod LastGroups
 pub mod Progressing
-pub mod Propers
 pub mod RangeEnds
 pub mod Turns

@@ -1,5 +1,5 @@
 -- One range more in the search for the bound of a scope.
-use Rattle.std.proofs.Common.{◌≡◌, ℕ, zero, suc, ◌+◌, ◌-◌, ◌<◌, ◌≤◌, max, Bool, true, cond, ltb, List, [], ◌∷◌, ◌++◌, length, take, Some, None, Option, sym, refl, ap, ◌∙◌, subst, ap₂, inl, inr, ⊎_elim, add-one, arith, length-append}
+use Rattle.std.proofs.Common.{◌≡◌, ℕ, zero, suc, ◌+◌, ◌-◌, ◌<◌, ◌≤◌, max, List, [], ◌∷◌, ◌++◌, length, take, Some, None, Option, sym, refl, ap, ◌∙◌, subst, ap₂, inl, inr, ⊎_elim, add-one, arith, length-append}
 use Rattle.std.proofs.lemmas.List.{take-append-le, take_at}
 use Rattle.std.proofs.lemmas.Bool.{cases_lt, lt-ltb, le-ltb}
 use Rattle.model.specs.Graph.{Scope}
@@ -166,22 +166,21 @@ module _ {C : Type 0} {m : Measure C} (laws : Laws m) (s : Scope) (value : ℕ �
       runs_all laws g s i p.there (choice_cost best) (subst (λ k. IsBest m (RunsBetween m g i s.least k) (choice_cost best)) e (h.runs_best g i chosen p))
 
 -- a turn of the search, from what its calls answer
-pub turned : {C : Type 0} {m : Measure C} → Laws m → (s : Scope) (value : ℕ → Option C) (done b first whole : ℕ) (f : C) (front front' copies : Option C) (groups groups' : List Group) (best best' found : Option (Choice C)) (on off : Costliest C) (room : Bool) →
+pub turned : {C : Type 0} {m : Measure C} → Laws m → (s : Scope) (value : ℕ → Option C) (done b first whole : ℕ) (f : C) (front front' copies : Option C) (groups groups' : List Group) (best best' found : Option (Choice C)) (on off : Costliest C) →
     front ≡ Some f → IsProgress m s value done front groups best → done < s.most → first ≡ done + 1 → IsCut s.facts first s.most b →
     IsCostliest m value s.edges s.facts first Repeat on → IsCostliest m value s.edges s.facts first Exit off →
     whole ≡ length groups → found ≡ range_choice m s.least f on off first b whole →
-    room ≡ ltb (length groups) 10 → groups' ≡ cond room (groups ++ (group first b (way_edges on.way) ∷ [])) groups →
+    groups' ≡ groups ++ (group first b (way_edges on.way) ∷ []) →
     copies ≡ powers m on.cost (b - done) → front' ≡ joined m (Some f) copies → best' ≡ better_choice m best found →
     (done < b) × IsProgress m s value b front' groups' best'
-turned {C} {m} laws s value done b first whole f front front' copies groups groups' best best' found on off room goes h more next cut again leave count fo ro gr co fr be =
+turned {C} {m} laws s value done b first whole f front front' copies groups groups' best best' found on off goes h more next cut again leave count fo gr co fr be =
     let e : first ≡ suc done = next ∙ add-one done in
     let cut' : IsCut s.facts (suc done) s.most b = subst (λ a. IsCut s.facts a s.most b) e cut in
     let again' : IsCostliest m value s.edges s.facts (suc done) Repeat on = subst (λ a. IsCostliest m value s.edges s.facts a Repeat on) e again in
     let leave' : IsCostliest m value s.edges s.facts (suc done) Exit off = subst (λ a. IsCostliest m value s.edges s.facts a Exit off) e leave in
     let h' : IsProgress m s value done (Some f) groups best = subst (λ o. IsProgress m s value done o groups best) goes h in
     let p = progress_more laws s value done b f groups best on off h' more cut' again' leave' in
-    let wide : room ≡ true = ro ∙ lt-ltb (length groups) 10 (let w = h.few in omega arith) in
-    let gs : groups' ≡ groups ++ (group (suc done) b (way_edges on.way) ∷ []) = gr ∙ ap (λ v. cond v (groups ++ (group first b (way_edges on.way) ∷ [])) groups) wide ∙ ap (λ a. groups ++ (group a b (way_edges on.way) ∷ [])) e in
+    let gs : groups' ≡ groups ++ (group (suc done) b (way_edges on.way) ∷ []) = gr ∙ ap (λ a. groups ++ (group a b (way_edges on.way) ∷ [])) e in
     let fs : front' ≡ joined m (Some f) (powers m on.cost (b - done)) = fr ∙ ap (joined m (Some f)) co in
     let bs : best' ≡ better_choice m best (range_choice m s.least f on off (suc done) b (length groups)) = be ∙ ap (better_choice m best) (fo ∙ ap₂ (λ a w. range_choice m s.least f on off a b w) e count) in (
       (let w = cut'.low in omega arith),

@@ -9,7 +9,9 @@ use Rattle.model.specs.Trail.{Group, SameFacts, AreRanges, unrolled}
 use Rattle.model.specs.Ways.{AreFrontWays}
 use Rattle.search.specs.declared.found.Costliest.{Costliest}
 use Rattle.search.specs.Tables.{OnSome}
+use Rattle.trail.specs.Groups.{groups_of}
 use Rattle.bound.specs.declared.choice.Choice.{Choice}
+use Rattle.bound.specs.declared.progress.Progress.{Progress}
 use Rattle.bound.specs.Choices.{choice_cost, better_choice, IsPlaced, IsChoice}
 use Rattle.bound.specs.Ranges.{cuts}
 
@@ -36,3 +38,7 @@ pub record IsProgress {C : Type 0} (m : Measure C) (s : Scope) (value : ℕ → 
   pub front_best : (g : List Scope) (i : ℕ) (chosen : ℕ → Run) → IsPlaced m s value g i chosen → IsBest m (FrontCost m g s done) front
   pub runs_best : (g : List Scope) (i : ℕ) (chosen : ℕ → Run) → IsPlaced m s value g i chosen → IsBest m (RunsBetween m g i s.least done) (choice_cost best)
   pub choice : OnSome (λ x. IsChoice m s value (take x.whole groups) x × (x.whole ≤ 8) × (x.whole ≤ length groups)) best
+
+-- what is known of how far a search has come
+abbrev pub Stands : {C : Type 0} → Measure C → Scope → (ℕ → Option C) → Progress C → Type 0
+Stands m s value p = IsProgress m s value p.done p.front (groups_of p.groups) p.best

@@ -1,5 +1,5 @@
 -- The bound of a scope, as it is found.
-use Rattle.std.specs.Prelude.{◌≡◌, ℕ, ◌≤◌, ◌⊎◌, List, ◌++◌, Some, None, Option}
+use Rattle.std.specs.Prelude.{◌≡◌, ℕ, ◌≤◌, ◌⊎◌, List, ◌++◌, Some, None, Option, Ok, Err, Result}
 use Rattle.model.specs.Best.{IsBest}
 use Rattle.model.specs.Graph.{Scope}
 use Rattle.model.specs.Measures.{Measure}
@@ -10,9 +10,8 @@ use Rattle.plain.specs.Ranges.{Proper}
 use Rattle.search.specs.Ways.{way_edges}
 use Rattle.trail.specs.Groups.{groups_of}
 use Rattle.bound.specs.declared.choice.Choice.{Choice}
-use Rattle.bound.specs.declared.outcome.Outcome.{Outcome}
-use Rattle.bound.specs.declared.outcome.Outcome.TheVariants.{Unfit, NoRun, Bound}
-use Rattle.bound.specs.declared.outcome.Solution.{Solution}
+use Rattle.bound.specs.declared.solution.Solution.{Solution}
+use Rattle.bound.specs.declared.solution.Unfit.{Unfit}
 use Rattle.bound.specs.declared.progress.Progress.{Progress}
 use Rattle.bound.specs.Choices.{last_groups, IsPlaced, IsChoice}
 
@@ -33,7 +32,7 @@ pub record IsSolution {C : Type 0} (m : Measure C) (s : Scope) (value : ℕ → 
   pub cost : x.cost ≡ choice.cost
   pub passes : x.passes ≡ choice.passes
 
-abbrev pub Solves : {C : Type 0} → Measure C → Scope → (ℕ → Option C) → ℕ → Outcome C → Type 0
-Solves m s value room Unfit = 32 ≤ room → Proper s.facts → 1 ≤ s.least → ⊥
-Solves m s value room NoRun = IsRunsBest m s value None
-Solves m s value room (Bound x) = IsRunsBest m s value (Some x.cost) × IsSolution m s value x
+abbrev pub Solves : {C : Type 0} → Measure C → Scope → (ℕ → Option C) → ℕ → Result (Option (Solution C)) Unfit → Type 0
+Solves m s value room (Err e) = 32 ≤ room → Proper s.facts → 1 ≤ s.least → ⊥
+Solves m s value room (Ok None) = IsRunsBest m s value None
+Solves m s value room (Ok (Some x)) = IsRunsBest m s value (Some x.cost) × IsSolution m s value x

@@ -3,7 +3,9 @@
 
 mod choice;
 mod costs;
-pub mod outcome;
 mod progress;
+mod range;
+mod scope_search;
+pub mod solution;
 pub mod solve;
 mod turn;

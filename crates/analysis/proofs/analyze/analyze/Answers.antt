@@ -2,7 +2,6 @@ use Rattle.std.proofs.Common.{sym, refl, ◌∙◌, arith}
 use Rattle.model.specs.Analysis.Early.{short_work, broken, short_trail}
 use Rattle.model.specs.Analysis.Analyzed.{refused}
 use Rattle.model.proofs.Bests.{none_some}
-use Rattle.plain.specs.Bounds.{bounds_of}
 use Rattle.rules.proofs.Kept.{keeps_from, few_scopes, order_there}
 use Rattle.analysis.proofs.Settling.{settled_all}
 use Rattle.analysis.proofs.Answering.{answered_bound, answered_none}
@@ -29,26 +28,27 @@ returns-in_default-call_order g c =
     let w = order_there G (keeps_from G c.in_default.ensures) _ c.call_order.ensures in
     absurd (none_some (sym c.in_default-call_order.is ∙ w.1))
 
-pub returns-then-marks-offset0 : goal.returns-then-marks-offset0
-returns-then-marks-offset0 g c =
+pub returns-then-solved : goal.returns-then-solved
+returns-then-solved g c =
     let G = g.G.ScopeGraph.graph c.args.graph.now in
     let m = g.C.Cost.measure in
     let kept = c.in_default.ensures in
     let few = few_scopes G (keeps_from G kept) in
-    let bounds = bounds_of c.settle_all-marks.result.bounds in
-    let solved = c.settle_all-marks.result.solved in
-    let last = c.settle_all-marks.new.trail in
-    answered_bound m G kept bounds c.args.work.now c.write_bounds.new.work c.args.trail.now last solved (settled_all m G bounds last solved c.in-Some-call_order.order c.in-Some-call_order.ensures c.settle_all-marks.ensures.settled)
-    (λ i h. c.write_bounds.ensures i (omega (arith, few, h))) c.settle_all-marks.ensures.rest (omega arith) (omega (arith, c.scopes.ensures, c.if-trail-scopes.false)) c.if-marks-offset0.true c.index-work-0.result (omega arith) c.index-work-0.is
+    let bounds = c.settle_all-solved.new.bounds in
+    let solved = c.settle_all-solved.result in
+    let last = c.settle_all-solved.new.trail in
+    let w = c.index-bounds-0 in
+    answered_bound m G kept bounds c.settle_all-solved.new.table c.args.work.now c.args.trail.now last solved (settled_all m G bounds last solved c.in-Some-call_order.order c.in-Some-call_order.ensures c.settle_all-solved.ensures.settled)
+    (omega arith) c.settle_all-solved.ensures.rest (omega arith) (omega (arith, c.scopes.ensures, c.if-trail-scopes.false)) c.if-solved.true w.result w.is
 
-pub returns-else-marks-offset0 : goal.returns-else-marks-offset0
-returns-else-marks-offset0 g c =
+pub returns-else-solved : goal.returns-else-solved
+returns-else-solved g c =
     let G = g.G.ScopeGraph.graph c.args.graph.now in
     let m = g.C.Cost.measure in
     let kept = c.in_default.ensures in
     let few = few_scopes G (keeps_from G kept) in
-    let bounds = bounds_of c.settle_all-marks.result.bounds in
-    let solved = c.settle_all-marks.result.solved in
-    let last = c.settle_all-marks.new.trail in
-    answered_none m G kept bounds c.args.work.now c.write_bounds.new.work c.args.trail.now last solved (settled_all m G bounds last solved c.in-Some-call_order.order c.in-Some-call_order.ensures c.settle_all-marks.ensures.settled)
-    (λ i h. c.write_bounds.ensures i (omega (arith, few, h))) c.settle_all-marks.ensures.rest (omega arith) (omega (arith, c.scopes.ensures, c.if-trail-scopes.false)) c.if-marks-offset0.false
+    let bounds = c.settle_all-solved.new.bounds in
+    let solved = c.settle_all-solved.result in
+    let last = c.settle_all-solved.new.trail in
+    answered_none m G kept bounds c.settle_all-solved.new.table c.args.work.now c.args.trail.now last solved (settled_all m G bounds last solved c.in-Some-call_order.order c.in-Some-call_order.ensures c.settle_all-solved.ensures.settled)
+    (omega arith) c.settle_all-solved.ensures.rest (omega arith) (omega (arith, c.scopes.ensures, c.if-trail-scopes.false)) c.if-solved.false

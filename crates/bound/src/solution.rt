@@ -9,10 +9,6 @@ pub struct Solution<C> {
     pub groups: Groups,
 }
 
-#[derive(Clone, Copy)]
-pub enum Outcome<C> {
-    // the scope has no least number of passes, a fact ends before it begins, or the table is too short
-    Unfit,
-    NoRun,
-    Bound(Solution<C>),
-}
+// The scope has no least number of passes, a fact ends before it begins, or the table is too short.
+#[derive(Clone, Copy, PartialEq, Eq, Debug)]
+pub struct Unfit;
