@@ -1,19 +1,11 @@
 -- The test that all edges lead forward.
-use Rattle.std.proofs.Common.{◌≡◌, ℕ, zero, suc, ◌+◌, ◌<◌, Bool, true, false, ◌&&◌, ltb, List, [], ◌∷◌, length, get_or, drop, sym, refl, ap, ◌∙◌, subst, arith}
-use Rattle.std.proofs.lemmas.List.{at_drop_more}
+use Rattle.std.proofs.Common.{◌≡◌, ℕ, zero, suc, ◌<◌, Bool, true, false, ◌&&◌, ltb, List, [], ◌∷◌, refl, subst, arith}
 use Rattle.std.proofs.lemmas.Bool.{and_parts, ltb-true, lt-ltb}
 use Rattle.model.specs.declared.graph.Target.{Target}
 use Rattle.model.specs.declared.graph.Target.TheVariants.{To, Again, Leave}
 use Rattle.model.specs.declared.graph.Edge.{Edge}
 use Rattle.model.proofs.Bests.{none_some, some_same}
 use Rattle.search.specs.Walks.{Forward, onward, leads_forward_lem, all_forward_lem}
-
-module _ (n : ℕ) (edges : List Edge) (i : ℕ) (d : Edge) (all : Bool) (within : i < length edges) (inv : all_forward_lem n (drop i edges) ≡ all) where
-  pub forward_fails : false ≡ leads_forward_lem n (get_or edges i d) → false ≡ all
-  forward_fails f = ap (λ b. b && all_forward_lem n (drop (i + 1) edges)) f ∙ sym (at_drop_more (all_forward_lem n) edges i d within) ∙ inv
-
-  pub forward_more : true ≡ leads_forward_lem n (get_or edges i d) → all_forward_lem n (drop (i + 1) edges) ≡ all
-  forward_more f = ap (λ b. b && all_forward_lem n (drop (i + 1) edges)) f ∙ sym (at_drop_more (all_forward_lem n) edges i d within) ∙ inv
 
 leads_is : (n : ℕ) (x : Edge) → leads_forward_lem n x ≡ true → (x.from < n) × ((v : ℕ) → x.to ≡ To v → (x.from < v) × (v < n))
 leads_is n x h = (ltb-true _ _ (and_parts _ _ h).0, λ v e. go v (subst (λ t. onward n x.from t ≡ true) e (and_parts _ _ h).1))

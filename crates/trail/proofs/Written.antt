@@ -1,10 +1,7 @@
 -- A list written over in parts.
-use Rattle.std.proofs.Common.{◌≡◌, ℕ, ◌+◌, ◌-◌, ◌<◌, ◌≤◌, List, [], ◌∷◌, ◌++◌, length, take, drop, set, sym, ap, ◌∙◌, add-zero, add-one, arith, length-append, length-drop, length-take}
-use Rattle.std.proofs.lemmas.List.{take-append-drop, append_assoc, take_at, drop_at, drop-drop, set_split}
+use Rattle.std.proofs.Common.{◌≡◌, ℕ, ◌+◌, ◌-◌, ◌<◌, ◌≤◌, List, [], ◌∷◌, ◌++◌, length, take, drop, set, sym, ap, ◌∙◌, add-one, arith, length-append, length-drop, length-take}
+use Rattle.std.proofs.lemmas.List.{append_assoc, take_at, drop_at, drop-drop, set_split}
 use Rattle.trail.specs.Sections.{written}
-
-pub written_none : {A : Type 0} (old : List A) (i : ℕ) → old ≡ written old i []
-written_none old i = sym (ap (λ n. take i old ++ drop n old) (add-zero i) ∙ take-append-drop i old)
 
 pub written_one : {A : Type 0} (old : List A) (i : ℕ) (x : A) → i < length old → set old i x ≡ written old i (x ∷ [])
 written_one old i x h = set_split old i x h ∙ ap (λ n. take i old ++ (x ∷ drop n old)) (sym (add-one i))
