@@ -1,5 +1,5 @@
 -- What was tried is what the call is described to answer and to leave.
-use Rattle.std.proofs.Common.{◌≡◌, ℕ, zero, suc, ◌<◌, ◌≤◌, Bool, true, false, cond, ltb, List, [], ◌∷◌, length, Some, None, Ok, Err, IfSome, Option, Result, sym, refl, ap, ◌∙◌, subst, inl, inr, arith}
+use Rattle.std.proofs.Common.{◌≡◌, ℕ, zero, suc, ◌<◌, ◌≤◌, Bool, true, false, cond, ltb, List, [], ◌∷◌, length, Some, None, Ok, Err, Option, Result, sym, refl, ap, ◌∙◌, subst, inl, inr, arith}
 use Rattle.std.specs.List.{slice_get}
 use Rattle.std.proofs.lemmas.Bool.Decides.{nat_tests}
 use Rattle.model.specs.declared.graph.Node.TheVariants.{Block, Call}
@@ -11,13 +11,10 @@ use Rattle.model.specs.Numbers.{number}
 use Rattle.model.specs.Rules.{SomeIn, Absent, Reaches, Breaks, FirstBroken, Keeps, KeepsFrom}
 use Rattle.model.specs.Rules.Reaches.{directly, through}
 use Rattle.model.proofs.Bests.{none_some, some_same}
-use Rattle.workbook.specs.declared.change.Change.{Change}
-use Rattle.workbook.specs.declared.change.Step.TheVariants.{In}
 use Rattle.workbook.specs.declared.edit.Edit.{Edit}
 use Rattle.workbook.specs.declared.edit.Edit.TheVariants.{SetFigures, Strike}
 use Rattle.workbook.specs.Calls.{changed, Nowhere, Own, Meets, number_given, Described, numbered, unnumbered}
 use Rattle.workbook.specs.Calls.Described.{nowhere, refused, taken}
-use Rattle.workbook.specs.Steps.{Undoable, UndoableAt, Reversible}
 use Rattle.workbook.specs.Tries.{Tried, Added}
 use Rattle.workbook.proofs.Lists.{change_past, change_same}
 use Rattle.workbook.proofs.Undo.{nth_change, past}
@@ -47,14 +44,6 @@ pub at_below : (g : List Scope) (s : ℕ) → s < length g → (x : Scope) × (s
 at_below [] s h = absurd (omega arith)
 at_below (x ∷ g) zero h = (x, refl)
 at_below (x ∷ g) (suc s) h = at_below g s (omega arith)
-
-pub undoable : (g : List Scope) (s : ℕ) (ch : Change) (x : Scope) → slice_get g s ≡ Some x → Undoable ch x → UndoableAt ch (slice_get g s)
-undoable g s ch x e h = subst (UndoableAt ch) (sym e) h
-
--- a change that can be undone in any scope, where a scope is counted
-pub reversible : {A : Type 0} (g : List Scope) (s : ℕ) (ch : Change) (f : Scope → A) (n : Option A) → n ≡ in_scope (slice_get g s) (λ x. Some (f x)) → ((x : Scope) → Undoable ch x) → IfSome n (λ _. Reversible (In s ch) g)
-reversible g s ch f None e u = tt
-reversible g s ch f (Some a) e u = let w = there g s f a (sym e) in undoable g s ch w.0 w.1 (u w.0)
 
 -- the call's own refusals are then broken rules of the changed graph
 module _ (g : List Scope) (e : Edit) (somewhere : Nowhere g e → ⊥) (own : (x : Refusal) → Own g e x → Breaks (changed g e) x) where

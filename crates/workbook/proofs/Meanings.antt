@@ -24,8 +24,5 @@ set_changed f [] i x y h e k = refl
 set_changed f (z ∷ xs) zero x y h e k = ap (λ s. s ∷ map scope_of xs) (k ∙ ap (λ s. f (scope_of s)) e)
 set_changed f (z ∷ xs) (suc i) x y h e k = ap (λ l. scope_of z ∷ l) (set_changed f xs i x y (omega arith) e k)
 
-pub opened : (xs ys : List Sheet) (y : Sheet) (s : Scope) → ys ≡ xs ++ (y ∷ []) → scope_of y ≡ s → map scope_of ys ≡ map scope_of xs ++ (s ∷ [])
-opened xs ys y s e d = ap (map scope_of) e ∙ map_push scope_of xs y ∙ ap (λ z. map scope_of xs ++ (z ∷ [])) d
-
 pub closed : (xs ys : List Sheet) (y : Sheet) → xs ≡ ys ++ (y ∷ []) → map scope_of ys ≡ all_but_last (map scope_of xs)
 closed xs ys y e = sym (all_but_last_push (map scope_of ys) (scope_of y)) ∙ ap all_but_last (sym (ap (map scope_of) e ∙ map_push scope_of ys y))

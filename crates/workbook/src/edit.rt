@@ -1,4 +1,5 @@
-// The calls that change a workbook.
+// The calls that change a workbook. The passes of a scope and the figures of a block stand here as they stand in a
+// graph, each by its own name: a struct for two of them would be taken apart at every use.
 use model::graph::{Edge, Fact};
 
 #[derive(Clone, Copy, PartialEq, Eq, Debug)]

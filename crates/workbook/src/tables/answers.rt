@@ -1,6 +1,7 @@
 // What tables answer of the graph that they mean.
 ghost use Rattle.workbook.specs.Tables.{graph_of};
 
+use crate::sheet::Sheet;
 use crate::tables::Tables;
 use model::graph::{Edge, Fact, Node};
 use model::scope_graph::ScopeGraph;
@@ -13,19 +14,19 @@ impl ScopeGraph for Tables {
     }
 
     fn passes(&self, scope: usize) -> Option<(u16, u16)> {
-        self.scopes.get(scope).map(|sheet| sheet.passes())
+        self.scopes.get(scope).map(Sheet::passes)
     }
 
     fn nodes(&self, scope: usize) -> Option<usize> {
-        self.scopes.get(scope).map(|sheet| sheet.node_count())
+        self.scopes.get(scope).map(Sheet::node_count)
     }
 
     fn edges(&self, scope: usize) -> Option<usize> {
-        self.scopes.get(scope).map(|sheet| sheet.edge_count())
+        self.scopes.get(scope).map(Sheet::edge_count)
     }
 
     fn facts(&self, scope: usize) -> Option<usize> {
-        self.scopes.get(scope).map(|sheet| sheet.fact_count())
+        self.scopes.get(scope).map(Sheet::fact_count)
     }
 
     fn node(&self, scope: usize, n: usize) -> Option<Node> {

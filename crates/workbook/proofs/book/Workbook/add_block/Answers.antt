@@ -1,13 +1,8 @@
 use Rattle.std.proofs.Common.{length}
-use Rattle.model.specs.declared.graph.Node.TheVariants.{Block}
-use Rattle.workbook.specs.declared.change.Change.TheVariants.{PushNode}
 use Rattle.workbook.specs.declared.edit.Edit.TheVariants.{AddBlock}
 use Rattle.workbook.specs.Tables.{graph_of}
-use Rattle.workbook.proofs.Describing.{reversible, described_in}
+use Rattle.workbook.proofs.Describing.{described_in}
 use Rattle.workbook.proofs.book.Workbook.add_block.Goals as goal
-
-pub add-requires : goal.add-requires
-add-requires c = reversible (graph_of c.args.self.now.tables) c.args.scope (PushNode (Block c.args.time c.args.stack)) (λ x. length x.nodes) _ c.nodes-count.ensures (λ x. tt)
 
 pub returns : goal.returns
 returns c =

@@ -1,12 +1,8 @@
 use Rattle.std.proofs.Common.{length}
-use Rattle.workbook.specs.declared.change.Change.TheVariants.{PushEdge}
 use Rattle.workbook.specs.declared.edit.Edit.TheVariants.{AddEdge}
 use Rattle.workbook.specs.Tables.{graph_of}
-use Rattle.workbook.proofs.Describing.{reversible, described_in}
+use Rattle.workbook.proofs.Describing.{described_in}
 use Rattle.workbook.proofs.book.Workbook.add_edge.Goals as goal
-
-pub add-requires : goal.add-requires
-add-requires c = reversible (graph_of c.args.self.now.tables) c.args.scope (PushEdge c.args.edge) (λ x. length x.edges) _ c.edges-count.ensures (λ x. tt)
 
 pub returns : goal.returns
 returns c =

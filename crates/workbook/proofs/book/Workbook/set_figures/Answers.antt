@@ -1,20 +1,13 @@
 use Rattle.std.proofs.Common.{Some, sym, refl, ap, ◌∙◌, arith}
-use Rattle.workbook.specs.declared.change.Change.TheVariants.{Figures}
 use Rattle.workbook.specs.declared.edit.Edit.TheVariants.{SetFigures}
 use Rattle.workbook.specs.Tables.{graph_of}
-use Rattle.workbook.proofs.Describing.{at_below, present, undoable, described_set, described_nowhere, block_own, figures_missing, figures_call}
+use Rattle.workbook.proofs.Describing.{at_below, present, described_set, described_nowhere, block_own, figures_missing, figures_call}
 use Rattle.workbook.proofs.book.Workbook.set_figures.Goals as goal
 
 pub returns-then-scope-scopes : goal.returns-then-scope-scopes
 returns-then-scope-scopes c =
     let g = graph_of c.args.self.now.tables in
     described_nowhere g (SetFigures c.args.scope c.args.node c.args.time c.args.stack) g (omega (arith, c.scopes.ensures)) refl
-
-pub try_step-requires : goal.try_step-requires
-try_step-requires c =
-    let g = graph_of c.args.self.now.tables in
-    let w = at_below g c.args.scope (omega (arith, c.scopes.ensures)) in
-    undoable g c.args.scope (Figures c.args.node c.args.time c.args.stack) w.0 w.1 tt
 
 pub returns-in-None : goal.returns-in-None
 returns-in-None c =
