@@ -1,6 +1,5 @@
 -- One answer more.
-use Rattle.std.proofs.Common.{◌≡◌, ℕ, suc, ◌+◌, ◌<◌, ◌≤◌, List, ◌++◌, length, get_or, drop, Result, sym, ap, ◌∙◌, append_assoc, add-one, drop-cons}
-use Rattle.std.proofs.lemmas.List.{append-nil, drop_all}
+use Rattle.std.proofs.Common.{◌≡◌, ℕ, suc, ◌+◌, ◌<◌, List, ◌++◌, length, get_or, drop, Result, sym, ap, ◌∙◌, append_assoc, add-one, drop-cons}
 use Rattle.model.specs.declared.refusal.Refusal.{Refusal}
 use Rattle.session.specs.declared.call.Reply.{Reply}
 use Rattle.script.specs.Text.{answer_text_lem, answers_text}
@@ -11,7 +10,3 @@ module _ {C : Type 0} (said : C → List ℕ) where
   line_more bs i a old new all h is e k =
       let rest = answers_text said (drop (suc i) bs) in
       rw (add-one, e) (append_assoc old (answer_text_lem said a) rest ∙ ap (λ z. old ++ (answer_text_lem said z ++ rest)) is ∙ ap (λ z. old ++ answers_text said z) (sym (drop-cons bs i a h)) ∙ k)
-
-  -- behind the last answer nothing is left
-  pub all_lines : (bs : List (Result (Reply C) Refusal)) (i : ℕ) (text all : List ℕ) → length bs ≤ i → text ++ answers_text said (drop i bs) ≡ all → text ≡ all
-  all_lines bs i text all h e = sym (append-nil text) ∙ ap (λ z. text ++ answers_text said z) (sym (drop_all i bs h)) ∙ e

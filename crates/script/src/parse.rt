@@ -1,4 +1,5 @@
-// The words of a line as a call. What comes of it is checked by whoever asks.
+// The words of a line as a call. What comes of it is checked by whoever asks; so it is no FromStr, which would promise
+// more: other spaces and words behind the call are passed over here.
 use model::graph::{Constraint, Edge, Fact, Target};
 use session::call::Call;
 use std::str::SplitWhitespace;

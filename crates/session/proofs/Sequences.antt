@@ -18,9 +18,6 @@ module _ {C : Type 0} (m : Measure C) where
   sequence_more (d ∷ cs) [] c a g h k work w v trail t u p s = absurd p
   sequence_more (d ∷ cs) (b ∷ bs) c a g h k work w v trail t u (g₁, w₁, t₁, p, q) s = (g₁, w₁, t₁, p, sequence_more cs bs c a g₁ h k w₁ w v t₁ t u q s)
 
-  pub sequence_none : (bs : List (Result (Reply C) Refusal)) (g : List Scope) (work : List C) (trail : List Line) → bs ≡ [] → g ≡ [] → Sequence m [] bs [] work trail g work trail
-  sequence_none bs g work trail p q = subst (λ (x : List (Result (Reply C) Refusal)). Sequence m [] x [] work trail g work trail) (sym p) (q, refl, refl)
-
   -- the call at place i
   pub sequence_next : (calls : List Call) (i : ℕ) (d : Call) (bs cs : List (Result (Reply C) Refusal)) (a : Result (Reply C) Refusal) (h k : List Scope) (work w v : List C) (trail t u : List Line) → i < length calls → cs ≡ bs ++ (a ∷ []) →
       Sequence m (take i calls) bs [] work trail h w t → Answers m (get_or calls i d) a h w t k v u → Sequence m (take (i + 1) calls) cs [] work trail k v u

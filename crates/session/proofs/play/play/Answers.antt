@@ -3,13 +3,8 @@ use Rattle.std.proofs.lemmas.List.{take_all}
 use Rattle.workbook.specs.Books.{book_graph}
 use Rattle.session.specs.declared.call.Call.{Call}
 use Rattle.session.specs.Sequences.{Sequence}
-use Rattle.session.proofs.Sequences.{sequence_none, sequence_next}
+use Rattle.session.proofs.Sequences.{sequence_next}
 use Rattle.session.proofs.play.play.Goals as goal
-
-pub loop-call-init : goal.loop-call-init
-loop-call-init g c =
-    let m = c.in_ok-answers.ensures in
-    (sequence_none g.C.Cost.measure _ _ _ _ m.items c.in_ok-book.ensures, m.len, m.capacity)
 
 pub loop-call-preserved : goal.loop-call-preserved
 loop-call-preserved g c =
