@@ -1,13 +1,14 @@
 -- One line more of a report.
-use Rattle.std.proofs.Common.{◌≡◌, ℕ, suc, ◌+◌, ◌<◌, ◌≤◌, List, ◌++◌, length, get_or, drop, sym, ap, ◌∙◌, append_assoc, add-one, drop-cons}
-use Rattle.std.proofs.lemmas.List.{append-nil, drop_all}
+use Rattle.std.proofs.Common.{◌≡◌, ℕ, zero, suc, ◌+◌, ◌<◌, List, [], ◌∷◌, ◌++◌, length, get_or, take, sym, ap, ◌∙◌, append_assoc, add-one, arith}
+use Rattle.std.proofs.lemmas.List.{append-nil}
 use Rattle.bound_report.specs.Text.{scope_line_lem, scope_lines_lem}
 
--- the line of scope i goes from what is left to what is written
-pub line_more : (ps : List ℕ) (i : ℕ) (old new all : List ℕ) → i < length ps → new ≡ old ++ scope_line_lem i (get_or ps i 0) → old ++ scope_lines_lem i (drop i ps) ≡ all → new ++ scope_lines_lem (i + 1) (drop (i + 1) ps) ≡ all
-line_more ps i old new all h e k =
-    rw (add-one, e) (append_assoc old (scope_line_lem i (get_or ps i 0)) (scope_lines_lem (suc i) (drop (suc i) ps)) ∙ ap (λ z. old ++ scope_lines_lem i z) (sym (drop-cons ps i 0 h)) ∙ k)
+lines_next : (i : ℕ) (ps : List ℕ) (k j : ℕ) → i + k ≡ j → k < length ps → scope_lines_lem i (take (suc k) ps) ≡ scope_lines_lem i (take k ps) ++ scope_line_lem j (get_or ps k 0)
+lines_next i [] k j e h = absurd (omega arith)
+lines_next i (p ∷ ps) zero j e h = let q : i ≡ j = omega arith in append-nil (scope_line_lem i p) ∙ ap (λ (n : ℕ). scope_line_lem n p) q
+lines_next i (p ∷ ps) (suc k) j e h =
+    ap (λ z. scope_line_lem i p ++ z) (lines_next (suc i) ps k j (omega arith) (omega arith)) ∙ sym (append_assoc (scope_line_lem i p) (scope_lines_lem (suc i) (take k ps)) (scope_line_lem j (get_or ps k 0)))
 
--- behind the last scope nothing is left
-pub all_lines : (ps : List ℕ) (i : ℕ) (text all : List ℕ) → length ps ≤ i → text ++ scope_lines_lem i (drop i ps) ≡ all → text ≡ all
-all_lines ps i text all h e = sym (append-nil text) ∙ ap (λ z. text ++ scope_lines_lem i z) (sym (drop_all i ps h)) ∙ e
+-- the line of scope k follows those of the scopes before it
+pub lines_more : (ps : List ℕ) (k : ℕ) → k < length ps → scope_lines_lem 0 (take (k + 1) ps) ≡ scope_lines_lem 0 (take k ps) ++ scope_line_lem k (get_or ps k 0)
+lines_more ps k h = ap (λ n. scope_lines_lem 0 (take n ps)) (add-one k) ∙ lines_next 0 ps k k (omega arith) h

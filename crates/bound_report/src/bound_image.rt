@@ -9,23 +9,15 @@ use measures::cycles::Cycles;
 use measures::stack::Stack;
 use model::refusal::Refusal;
 use model::scope_graph::ScopeGraph;
-use model::trail::Line;
+use model::trail::{Line, SECTION};
 use std::alloc::{AllocError, Global};
 
-// The lines of a section of the trail.
-const SECTION: usize = 331;
-
-// The passes in the section of a scope.
+// The passes in the section of a scope, and 0 where it has none.
 fn passes_of(trail: &[Line], scope: usize) -> u16
     requires { scope < 16 }
     ensures { result ≡ passes_shown trail.now scope }
 {
-    let first = SECTION * scope;
-    if first < trail.len() {
-        trail[first].a
-    } else {
-        0
-    }
+    trail.get(SECTION * scope).map_or(0, |line| line.a)
 }
 
 // The passes in the sections of the first scopes.
@@ -33,11 +25,9 @@ fn shown_passes(heap: Global, trail: &[Line], scopes: usize) -> Result<Vec<u16>,
     requires { scopes ≤ 16 }
     ensures { IfOk result (λ p. ArePassesShown trail.now scopes p.items) }
 {
-    let mut passes = Vec::new(heap);
-    for scope in 0..scopes {
-        passes.push(passes_of(trail, scope))?;
-    }
-    Ok(passes)
+    (0..scopes)
+        .map(|scope| passes_of(trail, scope))
+        .collect(heap)
 }
 
 // The bounds of the image's graph in cycles and in stack, or why it is refused.
@@ -50,18 +40,16 @@ pub fn bound_image(heap: Global, bytes: &[u8]) -> Result<Result<Bounds, Refusal>
     };
     let in_cycles: Worked<Cycles> = work_out(heap, &image)?;
     let in_stack: Worked<Stack> = work_out(heap, &image)?;
-    let cycles = match in_cycles.answer {
-        Ok(cycles) => cycles,
-        Err(refusal) => return Ok(Err(refusal)),
-    };
-    let stack = match in_stack.answer {
-        Ok(stack) => stack,
-        Err(refusal) => return Ok(Err(refusal)),
-    };
-    let passes = shown_passes(heap, in_cycles.trail.as_slice(), image.scopes())?;
-    Ok(Ok(Bounds {
-        cycles,
-        stack,
-        passes,
-    }))
+    match (in_cycles.answer, in_stack.answer) {
+        (Ok(cycles), Ok(stack)) => {
+            let passes = shown_passes(heap, in_cycles.trail.as_slice(), image.scopes())?;
+            Ok(Ok(Bounds {
+                cycles,
+                stack,
+                passes,
+            }))
+        }
+        (Err(refusal), _) => Ok(Err(refusal)),
+        (_, Err(refusal)) => Ok(Err(refusal)),
+    }
 }

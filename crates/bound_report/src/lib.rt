@@ -3,6 +3,5 @@
 
 pub mod bound_image;
 pub mod bounds;
-pub mod sample;
 pub mod text;
 mod worked;

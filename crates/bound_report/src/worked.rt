@@ -6,13 +6,12 @@ use analysis::analyze::analyze;
 use model::cost::Cost;
 use model::refusal::Refusal;
 use model::scope_graph::ScopeGraph;
-use model::trail::Line;
+use model::trail::{Line, SECTION};
+use rules::limits::SCOPES;
 use std::alloc::{AllocError, Global};
 
 // The least work table.
 const WORK: usize = 128;
-// A section of the trail for each of sixteen scopes.
-const TRAIL: usize = 5296;
 
 // The answer, and the trail after it.
 #[derive(Drop)]
@@ -33,7 +32,7 @@ pub fn work_out<C: Cost + Clone, G: ScopeGraph>(
         a: 0,
         b: 0,
     };
-    let mut trail = vec![in heap; blank; TRAIL]?;
+    let mut trail = vec![in heap; blank; SCOPES * SECTION]?;
     let answer = analyze(graph, work.as_mut_slice(), trail.as_mut_slice());
     Ok(Worked { answer, trail })
 }

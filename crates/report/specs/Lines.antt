@@ -2,7 +2,7 @@
 use Rattle.std.specs.Prelude.{ℕ, suc, List, [], ◌∷◌, ◌++◌, length, Ok, Err, codes, decimal, Result}
 use Rattle.model.specs.declared.refusal.Refusal.{Refusal}
 use Rattle.model.specs.Graph.{Scope}
-use Rattle.model.specs.Numbers.{number}
+use Rattle.model.specs.Numbers.{refused_text}
 use Rattle.report.specs.declared.scope_line.ScopeLine.{ScopeLine}
 
 abbrev pub line_of : ℕ → Scope → ScopeLine
@@ -18,10 +18,7 @@ abbrev pub lines : ℕ → List Scope → List ℕ
 lines i [] = []
 lines i (s ∷ g) = (line_text (line_of i s) ++ codes "\n") ++ lines (suc i) g
 
-abbrev pub refused_text : Refusal → List ℕ
-refused_text e = codes "refused " ++ (decimal (number e) ++ codes "\n")
-
 -- a graph is listed by its scopes, and a refusal by its number
 abbrev pub listed : Result (List Scope) Refusal → List ℕ
 listed (Ok g) = lines 0 g
-listed (Err e) = refused_text e
+listed (Err e) = refused_text e ++ codes "\n"

@@ -2,5 +2,4 @@
 #![tactic(auto)]
 
 pub mod listing;
-pub mod sample;
 mod scope_line;
