@@ -23,7 +23,7 @@ impl fmt::Display for Bounds {
         let stack = self.stack;
         write!(f, "{cycles}\n{stack}\n")?;
         for (scope, passes) in self.passes.iter().enumerate() {
-            write!(f, "scope {scope} passes {passes}\n")?;
+            writeln!(f, "scope {scope} passes {passes}")?;
         }
         Ok(())
     }

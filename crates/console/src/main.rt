@@ -8,37 +8,33 @@ use anyhow::anyhow;
 use measures::cycles::Cycles;
 use measures::stack::Stack;
 use model::cost::Cost;
-use model::trail::Line;
+use model::trail::{Line, SECTION};
+use rules::limits::SCOPES;
 use script::answer_text::answer_lines;
 use script::cost_text::CostText;
 use script::read_call::read_call;
 use session::call::Call;
 use session::play::play;
-use std::alloc::{AllocError, Global};
+use std::alloc::Global;
 use std::env;
 use std::io::Read;
 
 mod sample;
 
-// The tables of the analysis: enough for sixteen scopes.
+// The least work table.
 const WORK: usize = 128;
-
-const TRAIL: usize = 5296;
 
 // The most that is read of a script, in bytes.
 const MOST_READ: u64 = 1_000_000;
 
-#[derive(Clone, Copy)]
+#[derive(Clone, Copy, Default)]
 struct Options {
     sample: bool,
     stack: bool,
 }
 
 fn read_options(rt: &HostRuntime) -> anyhow::Result<Options> {
-    let mut options = Options {
-        sample: false,
-        stack: false,
-    };
+    let mut options = Options::default();
     for word in env::args(rt)?.skip(1) {
         match word.as_str() {
             "--sample" => options.sample = true,
@@ -58,65 +54,51 @@ fn input(rt: &HostRuntime) -> anyhow::Result<String> {
     Ok(text)
 }
 
-// The calls of a script, or the number of the first line that is none.
-fn read_script(heap: Global, text: &str) -> Result<Result<Vec<Call>, usize>, AllocError> {
+// The calls of a script, where each of its lines is one, a comment or blank.
+fn read_script(heap: Global, text: &str) -> anyhow::Result<Vec<Call>> {
     let mut calls = Vec::new(heap);
-    let mut number: usize = 0;
-    for line in text.lines() {
-        number = number.saturating_add(1);
+    for (above, line) in text.lines().enumerate() {
         let line = line.trim();
         if line.is_empty() || line.starts_with('#') {
             continue;
         }
-        match read_call(heap, line)? {
-            Some(call) => calls.push(call)?,
-            None => return Ok(Err(number)),
-        }
+        let Some(call) = read_call(heap, line)? else {
+            let number = above.saturating_add(1);
+            let fault = format!(in heap; "line {number} is no call; nothing was run")?;
+            return Err(anyhow!(fault));
+        };
+        calls.push(call)?;
     }
-    Ok(Ok(calls))
+    Ok(calls)
 }
 
-// Runs the calls under one measure, and prints the answers.
-fn answer<C: Cost + Clone + CostText>(
-    rt: &HostRuntime,
-    calls: &[Call],
-    nothing: C,
-) -> anyhow::Result<()> {
+// Runs the calls under one measure, in tables that are enough for sixteen scopes, and prints the answers.
+fn answer<C: Cost + Clone + CostText>(rt: &HostRuntime, calls: &[Call]) -> anyhow::Result<()> {
     let heap = rt.alloc();
-    let mut work = vec![in heap; nothing; WORK]?;
+    let mut work = vec![in heap; C::nothing(); WORK]?;
     let blank = Line {
         kind: 0,
         a: 0,
         b: 0,
     };
-    let mut trail = vec![in heap; blank; TRAIL]?;
+    let mut trail = vec![in heap; blank; SCOPES * SECTION]?;
     let answers = play(heap, calls, work.as_mut_slice(), trail.as_mut_slice())?;
     let text = answer_lines(heap, answers.as_slice())?;
     rt.print(text.as_str())?;
     Ok(())
 }
 
-fn run(rt: &HostRuntime) -> anyhow::Result<()> {
-    let options = read_options(rt)?;
-    let heap = rt.alloc();
-    let text = if options.sample {
-        String::from_str(heap, SAMPLE)?
-    } else {
-        input(rt)?
-    };
-    let calls = match read_script(heap, text.as_str())? {
-        Ok(calls) => calls,
-        Err(number) => {
-            return Err(anyhow!(format!(in heap; "line {number} is no call; nothing was run")?));
-        }
-    };
-    if options.stack {
-        answer(rt, calls.as_slice(), <Stack as Cost>::nothing())
-    } else {
-        answer(rt, calls.as_slice(), <Cycles as Cost>::nothing())
-    }
-}
-
 fn main(rt: HostRuntime) -> anyhow::Result<()> {
-    run(&rt)
+    let options = read_options(&rt)?;
+    let text = if options.sample {
+        String::from_str(rt.alloc(), SAMPLE)?
+    } else {
+        input(&rt)?
+    };
+    let calls = read_script(rt.alloc(), text.as_str())?;
+    if options.stack {
+        answer::<Stack>(&rt, calls.as_slice())
+    } else {
+        answer::<Cycles>(&rt, calls.as_slice())
+    }
 }

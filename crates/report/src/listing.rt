@@ -18,8 +18,7 @@ fn scope_lines<G: ScopeGraph>(heap: Global, graph: &G) -> Result<String, AllocEr
     let mut text = String::new(heap);
     for scope in 0..graph.scopes() {
         if let Some(line) = scope_line(graph, scope) {
-            let line = format!(in heap; "{line}\n")?;
-            text.push_str(line.as_str())?;
+            writeln!(text, "{line}")?;
         }
     }
     Ok(text)
