@@ -2,16 +2,13 @@
 ghost use Rattle.std.specs.Prelude.{IfOk};
 ghost use Rattle.bound_report.specs.Outcomes.{WorkedOut};
 
-use analysis::analyze::analyze;
+use analysis::analyze::{WORK, analyze};
 use model::cost::Cost;
 use model::refusal::Refusal;
 use model::scope_graph::ScopeGraph;
 use model::trail::{Line, SECTION};
 use rules::limits::SCOPES;
 use std::alloc::{AllocError, Global};
-
-// The least work table.
-const WORK: usize = 128;
 
 // The answer, and the trail after it.
 #[derive(Drop)]

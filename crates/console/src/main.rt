@@ -4,6 +4,7 @@
 #![tactic(auto)]
 
 use crate::sample::SAMPLE;
+use analysis::analyze::WORK;
 use anyhow::anyhow;
 use measures::cycles::Cycles;
 use measures::stack::Stack;
@@ -20,9 +21,6 @@ use std::env;
 use std::io::Read;
 
 mod sample;
-
-// The least work table.
-const WORK: usize = 128;
 
 // The most that is read of a script, in bytes.
 const MOST_READ: u64 = 1_000_000;
