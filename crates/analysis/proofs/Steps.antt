@@ -1,7 +1,9 @@
 -- The scope at place k of the order, worked out and written down, is settled.
-use Rattle.std.proofs.Common.{◌≡◌, ℕ, zero, suc, ◌+◌, ◌*◌, ◌<◌, ◌≤◌, Bool, true, false, cond, leb, List, [], ◌∷◌, ◌++◌, length, get_or, drop, set, replicate, Some, None, Option, Err, sym, refl, ◌∙◌, subst, inl, inr, arith, get_or-set_other, get_or-set_same}
+use Rattle.std.proofs.Common.{◌≡◌, ℕ, zero, suc, ◌+◌, ◌*◌, ◌<◌, ◌≤◌, Bool, true, false, cond, leb, List, [], ◌∷◌, ◌++◌, length, get_or, drop, set, replicate, is_some, Some, None, Option, Ok, Err, Result, sym, refl, ap, ◌∙◌, subst, inl, inr, arith, get_or-set_other, get_or-set_same}
 use lib.ListN.{length-replicate}
 use Rattle.std.specs.List.{slice_get}
+use Rattle.std.specs.Option.{IsSome}
+use Rattle.std.specs.Result.{IsOk}
 use Rattle.model.specs.declared.graph.Node.TheVariants.{Call}
 use Rattle.model.specs.declared.trail.Line.{Line}
 use Rattle.model.specs.Best.{IsBest}
@@ -14,7 +16,9 @@ use Rattle.model.specs.Ways.{RunCost, AreValues, edge_value_lem}
 use Rattle.model.proofs.Passes.{best_no_run}
 use Rattle.model.proofs.Scopes.{IsPlan, scope_solved}
 use Rattle.plain.specs.Values.{bound_at, capped}
-use Rattle.plain.proofs.Kept.{values_right}
+use Rattle.plain.specs.declared.plain_scope.PlainScope.{PlainScope}
+use Rattle.plain.specs.Copies.{Copied}
+use Rattle.plain.proofs.Kept.{copied_there, values_right}
 use Rattle.rules.specs.CallOrders.{CalledFirst}
 use Rattle.rules.proofs.Kept.{few_scopes, called_there, least_some, first_last}
 use Rattle.search.specs.Ways.{way_edges}
@@ -95,15 +99,22 @@ module _ {C : Type 0} {m : Measure C} (laws : Laws m) (g : List Scope) (kept : K
             (subst (λ gs. IsPlan m s value x.passes gs sol.choice.cost) (sym sol.groups)
             (subst (λ p. IsPlan m s value p (sol.fronts ++ last_groups sol.choice.first sol.choice.passes (way_edges sol.choice.on) (way_edges sol.choice.off)) sol.choice.cost) (sym sol.passes) (choice_plan s value sol.fronts sol.choice sol.stands)))
 
-  -- it is never unfit
-  pub fit : (room : ℕ) (e : Unfit) → 32 ≤ room → Solves m s value room (Err e) → ⊥
-  fit room e enough h = h enough (λ j f q. first_last g kept number s there j f q) (least_some g kept number s there)
+  -- it is fit
+  pub fit : (room : ℕ) → 32 ≤ room → (r : Result (Option (Solution C)) Unfit) → Solves m s value room r → IsOk r
+  fit room enough (Ok x) h = refl
+  fit room enough (Err e) h = absurd (h enough (λ j f q. first_last g kept number s there j f q) (least_some g kept number s there))
 
 -- a scope below the count is there
-pub scope_there : (g : List Scope) (i : ℕ) → i < length g → (s : Scope) × (slice_get g i ≡ Some s)
+scope_there : (g : List Scope) (i : ℕ) → i < length g → (s : Scope) × (slice_get g i ≡ Some s)
 scope_there [] i h = absurd (omega arith)
 scope_there (x ∷ g) zero h = (x, refl)
 scope_there (x ∷ g) (suc i) h = scope_there g i (omega arith)
+
+-- it is copied
+pub copied : (g : List Scope) → KeepsFrom 22 g → (order : List ℕ) → CalledFirst g order → (k : ℕ) → k < length g → (r : Option PlainScope) → Copied g (get_or order k 0) r → IsSome r
+copied g kept order first k within r h =
+    let w = scope_there g (get_or order k 0) (first.within k within) in
+    let c = copied_there g kept (get_or order k 0) w.0 w.1 r h in ap is_some c.1
 
 -- places and numbers of the order are few
 pub place_few : (g : List Scope) → KeepsFrom 22 g → (k : ℕ) → k < length g → k < 16

@@ -9,15 +9,16 @@ use crate::settle::settle;
 use model::cost::Cost;
 use model::scope_graph::ScopeGraph;
 use model::trail::Line;
+use rules::limits::SCOPES;
 
 // Every scope of the order, worked out and written down; says which of them have a run.
 pub fn settle_all<C: Cost, G: ScopeGraph>(
     graph: &G,
-    order: &[u8; 16],
+    order: &[u8; SCOPES],
     bounds: &mut [C],
     table: &mut [C],
     trail: &mut [Line],
-) -> [bool; 16]
+) -> [bool; SCOPES]
     requires keeps { KeepsFrom 22 (G.ScopeGraph.graph graph.now) }
     requires ordered { CalledFirst (G.ScopeGraph.graph graph.now) order.now }
     requires places { length bounds.old ≡ 16 }
@@ -26,7 +27,7 @@ pub fn settle_all<C: Cost, G: ScopeGraph>(
     ensures settled { AreSettled C.measure (G.ScopeGraph.graph graph.now) bounds.new trail.new result order.now (length (G.ScopeGraph.graph graph.now)) }
     ensures rest { drop (size * length (G.ScopeGraph.graph graph.now)) trail.new ≡ drop (size * length (G.ScopeGraph.graph graph.now)) trail.old }
 {
-    let mut solved = [false; 16];
+    let mut solved = [false; SCOPES];
     for place in 0..graph.scopes() {
         settle(graph, order, place, bounds, &mut solved, table, trail);
     }

@@ -7,9 +7,10 @@ use model::refusal::Refusal;
 use model::scope_graph::ScopeGraph;
 use model::trail::{Line, SECTION};
 use rules::judge::first_broken;
+use rules::limits::SCOPES;
 use rules::order::call_order;
 
-// The least work table. Its first 16 places are for the bounds of the scopes, the others for the search.
+// The least work table. Its first places are for the bounds of the scopes, the others for the search.
 pub const WORK: usize = 128;
 
 // The bound of scope 0, with the bound of every scope in the work table and a worst-case run of each in the trail.
@@ -29,10 +30,8 @@ pub fn analyze<C: Cost, G: ScopeGraph>(
     if trail.len() < SECTION * graph.scopes() {
         return Err(Refusal::ShortTrail);
     }
-    let Some(order) = call_order(graph) else {
-        return Err(Refusal::CallRing);
-    };
-    let (bounds, table) = work.split_at_mut(16);
+    let order = call_order(graph).unwrap();
+    let (bounds, table) = work.split_at_mut(SCOPES);
     let solved = settle_all(graph, &order, bounds, table, trail);
     if solved[0] {
         Ok(bounds[0])

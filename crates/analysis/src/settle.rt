@@ -5,23 +5,23 @@ ghost use Rattle.model.specs.Trail.{size};
 ghost use Rattle.rules.specs.CallOrders.{CalledFirst};
 ghost use Rattle.analysis.specs.States.{AreSettled};
 
-use bound::solution::Unfit;
 use bound::solve::solve;
 use model::cost::Cost;
 use model::scope_graph::ScopeGraph;
 use model::trail::Line;
 use plain::copy::copy_scope;
 use plain::edge_value::ScopeValues;
+use rules::limits::SCOPES;
 use trail::write::{clear_section, write_section};
 
 // The scope at this place of the order, worked out by the bounds of the scopes that it calls, and written down.
 #[tactic(auto, using(crate::proofs::Steps::number_few))]
 pub fn settle<C: Cost, G: ScopeGraph>(
     graph: &G,
-    order: &[u8; 16],
+    order: &[u8; SCOPES],
     place: usize,
     bounds: &mut [C],
-    solved: &mut [bool; 16],
+    solved: &mut [bool; SCOPES],
     table: &mut [C],
     trail: &mut [Line],
 )
@@ -36,26 +36,22 @@ pub fn settle<C: Cost, G: ScopeGraph>(
     ensures rest { drop (size * length (G.ScopeGraph.graph graph.now)) trail.new ≡ drop (size * length (G.ScopeGraph.graph graph.now)) trail.old }
 {
     let number = order[place] as usize;
-    let Some(scope) = copy_scope(graph, number) else {
-        return;
-    };
+    let scope = copy_scope(graph, number).unwrap();
     let values = ScopeValues {
         scope: &scope,
         bounds,
         solved,
     };
-    match solve(&scope, &values, table) {
-        Ok(Some(run)) => {
+    match solve(&scope, &values, table).unwrap() {
+        Some(run) => {
             write_section(trail, number, &scope, run.passes, &run.groups);
             bounds[number] = run.cost;
             solved[number] = true;
         }
-        Ok(None) => {
+        None => {
             clear_section(trail, number);
             bounds[number] = C::nothing();
             solved[number] = false;
         }
-        // what keeps the rules is fit
-        Err(Unfit) => {}
     }
 }

@@ -1,5 +1,5 @@
 -- One range more of a scope.
-use Rattle.std.proofs.Common.{◌≡◌, ℕ, zero, suc, ◌-◌, ◌≤◌, max, Bool, true, false, cond, List, Some, None, Option, refl, arith}
+use Rattle.std.proofs.Common.{◌≡◌, ℕ, suc, ◌-◌, ◌≤◌, max, Bool, true, false, cond, List, Some, None, Option, refl, arith}
 use Rattle.model.specs.declared.graph.Target.TheVariants.{Again, Leave}
 use Rattle.model.specs.Graph.{Scope}
 use Rattle.model.specs.Measures.{Measure, Laws}
@@ -16,10 +16,6 @@ use Rattle.search.specs.Found.{IsCostliest}
 use Rattle.search.specs.Tables.{OnSome}
 use Rattle.bound.specs.declared.choice.Choice.{Choice}
 use Rattle.bound.specs.Choices.{choice_cost, better_choice, IsPlaced}
-
-pub no_copies : {C : Type 0} (m : Measure C) (j : ℕ) → (j ≡ 0 → ⊥) → None ≡ powers m None j
-no_copies m zero h = absurd (h refl)
-no_copies m (suc j) h = refl
 
 pub better_cost : {C : Type 0} (m : Measure C) (x y : Option (Choice C)) → choice_cost (better_choice m x y) ≡ better m (choice_cost x) (choice_cost y)
 better_cost m None y = refl

@@ -8,4 +8,5 @@ mod range;
 mod scope_search;
 pub mod solution;
 pub mod solve;
+mod table;
 mod turn;

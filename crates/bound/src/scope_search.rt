@@ -1,12 +1,12 @@
 // A search for the bound of a scope.
-ghost use Rattle.std.specs.Prelude.{◌≡◌, ◌≤◌, length};
+ghost use Rattle.std.specs.Prelude.{◌≤◌};
 ghost use Rattle.plain.specs.Copies.{scope_of};
 ghost use Rattle.plain.specs.Ranges.{Proper};
 ghost use Rattle.search.specs.Found.{IsCostliest};
 
+use crate::table::Table;
 use model::cost::Cost;
 use plain::plain_scope::PlainScope;
-use row::row::Row;
 use search::ending::Ending;
 use search::found::Costliest;
 use search::values::EdgeValues;
@@ -22,19 +22,20 @@ pub struct ScopeSearch<'a, 'b, V> {
 
 impl<'a, 'b, V> ScopeSearch<'a, 'b, V> {
     // The costliest pass of this number with this ending.
-    pub fn costliest<C: Cost>(&self, pass: u16, ending: Ending, table: &mut [C]) -> Costliest<C>
+    pub fn costliest<C: Cost>(
+        &self,
+        pass: u16,
+        ending: Ending,
+        table: &mut Table<C>,
+    ) -> Costliest<C>
     where
         V: EdgeValues<C>,
-        requires { 32 ≤ length table.old }
         ensures { IsCostliest C.measure (V.EdgeValues.values self.now.values.now) (scope_of self.now.scope.now).edges (scope_of self.now.scope.now).facts pass ending result }
     {
         let ScopeSearch { scope, values, .. } = *self;
-        match scope.flow.costliest(values, pass, ending, table) {
-            Some(found) => found,
-            None => Costliest {
-                cost: None,
-                way: Row::new(0),
-            },
-        }
+        scope
+            .flow
+            .costliest(values, pass, ending, table.costs)
+            .unwrap()
     }
 }

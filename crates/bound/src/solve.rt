@@ -12,6 +12,7 @@ use crate::choice::Choice;
 use crate::progress::Progress;
 use crate::scope_search::ScopeSearch;
 use crate::solution::{Solution, Unfit};
+use crate::table::Table;
 use crate::turn::turn;
 use model::cost::Cost;
 use plain::plain_scope::PlainScope;
@@ -27,25 +28,27 @@ fn groups_of<C: Cost>(groups: Groups, choice: Choice<C>) -> Groups
     let mut all = groups;
     all.truncate(choice.whole);
     if choice.first < choice.passes {
-        let pushed = all.push(PassGroup {
+        let before = PassGroup {
             first: choice.first,
             last: choice.passes - 1,
             way: choice.on,
-        });
-        prove!(pushed.is_ok());
+        };
+        all.push(before).unwrap();
     }
-    let pushed = all.push(PassGroup {
+    let last = PassGroup {
         first: choice.passes,
         last: choice.passes,
         way: choice.off,
-    });
-    prove!(pushed.is_ok());
+    };
+    all.push(last).unwrap();
     all
 }
 
 // All ranges, or as many as can be gone on to.
-fn search_ranges<C: Cost, V: EdgeValues<C>>(search: &ScopeSearch<V>, table: &mut [C]) -> Progress<C>
-    requires { 32 ≤ length table.old }
+fn search_ranges<C: Cost, V: EdgeValues<C>>(
+    search: &ScopeSearch<V>,
+    table: &mut Table<C>,
+) -> Progress<C>
     ensures sofar { Stands C.measure (scope_of search.now.scope.now) (V.EdgeValues.values search.now.values.now) result }
     ensures ended { Ended (scope_of search.now.scope.now) result }
 {
@@ -88,7 +91,9 @@ pub fn solve<C: Cost, V: EdgeValues<C>>(
     if table.len() < 32 || scope.least == 0 || !is_proper(scope) {
         return Err(Unfit);
     }
-    let Progress { best, groups, .. } = search_ranges(&ScopeSearch { scope, values }, table);
+    let search = ScopeSearch { scope, values };
+    let mut table = Table { costs: table };
+    let Progress { best, groups, .. } = search_ranges(&search, &mut table);
     match best {
         None => Ok(None),
         Some(choice) => Ok(Some(Solution {

@@ -7,6 +7,7 @@ use crate::costs::{better_of, joined_of, powers_of};
 use crate::progress::Progress;
 use crate::range::Range;
 use crate::scope_search::ScopeSearch;
+use crate::table::Table;
 use model::cost::Cost;
 use search::ending::Ending;
 use search::values::EdgeValues;
@@ -17,15 +18,15 @@ pub fn turn<C: Cost, V: EdgeValues<C>>(
     search: &ScopeSearch<V>,
     progress: Progress<C>,
     front: C,
-    table: &mut [C],
+    table: &mut Table<C>,
 ) -> Progress<C>
-    requires room { 32 ≤ length table.old }
     requires goes { progress.front ≡ Some front }
     requires more { progress.done < search.now.scope.now.most }
     requires sofar { Stands C.measure (scope_of search.now.scope.now) (V.EdgeValues.values search.now.values.now) progress }
     ensures further { progress.done < result.done }
     ensures sofar { Stands C.measure (scope_of search.now.scope.now) (V.EdgeValues.values search.now.values.now) result }
 {
+    // a pass is left, so one more fits
     prove!(progress.done < search.scope.most);
     let first = progress.done + 1;
     let last = search.scope.range_end(first);
@@ -40,12 +41,12 @@ pub fn turn<C: Cost, V: EdgeValues<C>>(
         on,
         off,
     };
-    let pushed = groups.push(PassGroup {
+    let group = PassGroup {
         first,
         last,
         way: on.way,
-    });
-    prove!(pushed.is_ok());
+    };
+    groups.push(group).unwrap();
     let copies = powers_of(on.cost, u32::from(last - progress.done));
     Progress {
         done: last,

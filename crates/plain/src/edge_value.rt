@@ -8,6 +8,7 @@ ghost use Rattle.plain.specs.Values.{bound_at, heaviest, capped, KeptWeights};
 use crate::plain_scope::PlainScope;
 use model::cost::Cost;
 use model::graph::{Edge, Node};
+use rules::limits::SCOPES;
 use search::values::EdgeValues;
 
 // A number of cycles in 32 bits: not below 0, and cut off above.
@@ -33,7 +34,7 @@ fn weight_of(node: Node, effect: i32) -> u32
 pub struct ScopeValues<'a, C> {
     pub scope: &'a PlainScope,
     pub bounds: &'a [C],
-    pub solved: &'a [bool; 16],
+    pub solved: &'a [bool; SCOPES],
 }
 
 impl<'a, C: Cost> ScopeValues<'a, C> {
@@ -73,8 +74,6 @@ impl<'a, C: Cost> EdgeValues<C> for ScopeValues<'a, C> {
 }
 
 // In a graph that keeps the rules the weights are the sums of time and effect themselves, and fit 32 bits.
-pub fn weights_stand() -> u8
+pub fn weights_stand()
     ensures { KeptWeights }
-{
-    0
-}
+{}

@@ -1,7 +1,7 @@
-use Rattle.std.proofs.Common.{sym, refl, ◌∙◌, arith}
+use Rattle.std.proofs.Common.{is_some, refl, ap, subst, arith}
 use Rattle.model.specs.Analysis.Early.{short_work, broken, short_trail}
 use Rattle.model.specs.Analysis.Analyzed.{refused}
-use Rattle.model.proofs.Bests.{none_some}
+use Rattle.rules.specs.CallOrders.{Ordered}
 use Rattle.rules.proofs.Kept.{keeps_from, few_scopes, order_there}
 use Rattle.analysis.proofs.Settling.{settled_all}
 use Rattle.analysis.proofs.Answering.{answered_bound, answered_none}
@@ -22,11 +22,10 @@ overflow_mul-scopes g c =
 pub returns-then-trail-scopes : goal.returns-then-trail-scopes
 returns-then-trail-scopes g c = refused (short_trail (omega arith) c.in_default.ensures (omega (arith, c.scopes.ensures, c.if-trail-scopes.true))) refl refl
 
-pub returns-in_default-call_order : goal.returns-in_default-call_order
-returns-in_default-call_order g c =
+pub unwrap-order-requires : goal.unwrap-order-requires
+unwrap-order-requires g c =
     let G = g.G.ScopeGraph.graph c.args.graph.now in
-    let w = order_there G (keeps_from G c.in_default.ensures) _ c.call_order.ensures in
-    absurd (none_some (sym c.in_default-call_order.is ∙ w.1))
+    ap is_some (order_there G (keeps_from G c.in_default.ensures) _ c.call_order.ensures).1
 
 pub returns-then-solved : goal.returns-then-solved
 returns-then-solved g c =
@@ -38,7 +37,7 @@ returns-then-solved g c =
     let solved = c.settle_all-solved.result in
     let last = c.settle_all-solved.new.trail in
     let w = c.index-bounds-0 in
-    answered_bound m G kept bounds c.settle_all-solved.new.table c.args.work.now c.args.trail.now last solved (settled_all m G bounds last solved c.in-Some-call_order.order c.in-Some-call_order.ensures c.settle_all-solved.ensures.settled)
+    answered_bound m G kept bounds c.settle_all-solved.new.table c.args.work.now c.args.trail.now last solved (settled_all m G bounds last solved c.unwrap-order.result (subst (Ordered G) c.unwrap-order.ensures c.call_order.ensures) c.settle_all-solved.ensures.settled)
     (omega arith) c.settle_all-solved.ensures.rest (omega arith) (omega (arith, c.scopes.ensures, c.if-trail-scopes.false)) c.if-solved.true w.result w.is
 
 pub returns-else-solved : goal.returns-else-solved
@@ -50,5 +49,5 @@ returns-else-solved g c =
     let bounds = c.settle_all-solved.new.bounds in
     let solved = c.settle_all-solved.result in
     let last = c.settle_all-solved.new.trail in
-    answered_none m G kept bounds c.settle_all-solved.new.table c.args.work.now c.args.trail.now last solved (settled_all m G bounds last solved c.in-Some-call_order.order c.in-Some-call_order.ensures c.settle_all-solved.ensures.settled)
+    answered_none m G kept bounds c.settle_all-solved.new.table c.args.work.now c.args.trail.now last solved (settled_all m G bounds last solved c.unwrap-order.result (subst (Ordered G) c.unwrap-order.ensures c.call_order.ensures) c.settle_all-solved.ensures.settled)
     (omega arith) c.settle_all-solved.ensures.rest (omega arith) (omega (arith, c.scopes.ensures, c.if-trail-scopes.false)) c.if-solved.false
