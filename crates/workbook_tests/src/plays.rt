@@ -1,9 +1,10 @@
 // Lists of calls with their answers.
 use crate::step::Step::{Bar, Block, Edge, Figures, Passes, Scope, Strike};
 use crate::step::{Step, edit_of};
+use analysis::analyze::WORK;
 use measures::cycles::Cycles;
 use model::graph::Target::{Again, Leave, To};
-use model::trail::Line;
+use model::trail::{Line, SECTION};
 use session::call::Reply::{Bound, Done, Number};
 use session::call::{Answer, Call, Reply};
 use session::play::play;
@@ -33,12 +34,12 @@ fn check_play(rt: &HostRuntime, turns: &[Turn]) -> Result<(), Fail> {
     for (step, _) in turns {
         calls.push(call_of(*step))?;
     }
-    let mut work = [Cycles { count: 0 }; 128];
+    let mut work = [Cycles { count: 0 }; WORK];
     let mut trail = [Line {
         kind: 9,
         a: 9,
         b: 9,
-    }; 331];
+    }; SECTION];
     let answers = play(rt.alloc(), calls.as_slice(), &mut work, &mut trail)?;
     if answers.len() != turns.len() {
         return Err(Fail::new("another number of answers"));
