@@ -1,6 +1,6 @@
 // Lists of calls with their answers.
+use crate::step::Step;
 use crate::step::Step::{Bar, Block, Edge, Figures, Passes, Scope, Strike};
-use crate::step::{Step, edit_of};
 use analysis::analyze::WORK;
 use measures::cycles::Cycles;
 use model::graph::Target::{Again, Leave, To};
@@ -9,16 +9,10 @@ use session::call::Reply::{Bound, Done, Number};
 use session::call::{Answer, Call, Reply};
 use session::play::play;
 use std::test::Fail;
+use workbook::edit::Edit;
 
 // A step, or none for a working out; and its answer: a reply, a bound by its count, or the number of the refusal.
 type Turn = (Option<Step>, Result<Reply<u64>, u8>);
-
-fn call_of(step: Option<Step>) -> Call {
-    match step {
-        Some(step) => Call::Edit(edit_of(step)),
-        None => Call::WorkOut,
-    }
-}
 
 fn shown(answer: Answer<Cycles>) -> Result<Reply<u64>, u8> {
     match answer {
@@ -32,7 +26,7 @@ fn shown(answer: Answer<Cycles>) -> Result<Reply<u64>, u8> {
 fn check_play(rt: &HostRuntime, turns: &[Turn]) -> Result<(), Fail> {
     let mut calls = Vec::new(rt.alloc());
     for (step, _) in turns {
-        calls.push(call_of(*step))?;
+        calls.push(step.map_or(Call::WorkOut, |step| Call::Edit(Edit::from(step))))?;
     }
     let mut work = [Cycles { count: 0 }; WORK];
     let mut trail = [Line {

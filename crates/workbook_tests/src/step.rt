@@ -38,35 +38,42 @@ fn add_fact(scope: usize, constraint: Constraint, first: u16, last: u16) -> Edit
     }
 }
 
-pub(crate) fn edit_of(step: Step) -> Edit {
-    match step {
-        Step::Scope(least, most) => Edit::AddScope { least, most },
-        Step::Block(scope, time, stack) => Edit::AddBlock { scope, time, stack },
-        Step::Call(scope, callee) => Edit::AddCall { scope, callee },
-        Step::Edge(scope, from, to, effect) => {
-            Edit::AddEdge {
-                scope,
-                edge: Edge { from, to, effect },
+impl From<Step> for Edit {
+    fn from(step: Step) -> Edit {
+        match step {
+            Step::Scope(least, most) => Edit::AddScope { least, most },
+            Step::Block(scope, time, stack) => Edit::AddBlock { scope, time, stack },
+            Step::Call(scope, callee) => Edit::AddCall { scope, callee },
+            Step::Edge(scope, from, to, effect) => {
+                Edit::AddEdge {
+                    scope,
+                    edge: Edge { from, to, effect },
+                }
             }
+            Step::Bar(scope, node, first, last) => add_fact(
+                scope,
+                Constraint::Bar(node),
+                first,
+                last,
+            ),
+            Step::Pair(scope, node, other, first, last) => {
+                add_fact(scope, Constraint::Pair(node, other), first, last)
+            }
+            Step::Passes(scope, least, most) => Edit::SetPasses { scope, least, most },
+            Step::Figures(scope, node, time, stack) => Edit::SetFigures {
+                scope,
+                node,
+                time,
+                stack,
+            },
+            Step::Strike(scope) => Edit::Strike { scope },
         }
-        Step::Bar(scope, node, first, last) => add_fact(scope, Constraint::Bar(node), first, last),
-        Step::Pair(scope, node, other, first, last) => {
-            add_fact(scope, Constraint::Pair(node, other), first, last)
-        }
-        Step::Passes(scope, least, most) => Edit::SetPasses { scope, least, most },
-        Step::Figures(scope, node, time, stack) => Edit::SetFigures {
-            scope,
-            node,
-            time,
-            stack,
-        },
-        Step::Strike(scope) => Edit::Strike { scope },
     }
 }
 
 // The number of the refusal, none where the step is taken.
 fn refusal(book: &mut Workbook, step: Step) -> Option<u8> {
-    match book.edit(edit_of(step)) {
+    match book.edit(Edit::from(step)) {
         Ok(_) => None,
         Err(refusal) => Some(refusal.number()),
     }
