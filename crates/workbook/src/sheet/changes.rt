@@ -7,15 +7,16 @@ ghost use Rattle.workbook.specs.Steps.{apply_to, Room, inverse_of};
 use crate::change::Change;
 use crate::sheet::Sheet;
 use model::graph::Node;
+use rules::limits::{EDGES, FACTS, NODES};
 use std::alloc::{AllocError, Global};
 
 impl Sheet {
     pub fn new(heap: Global) -> Result<Sheet, AllocError>
         ensures { IfOk result (λ s. scope_of s ≡ empty_scope 0 0) }
     {
-        let nodes = Vec::with_capacity(heap, 33)?;
-        let edges = Vec::with_capacity(heap, 97)?;
-        let facts = Vec::with_capacity(heap, 5)?;
+        let nodes = Vec::with_capacity(heap, NODES + 1)?;
+        let edges = Vec::with_capacity(heap, EDGES + 1)?;
+        let facts = Vec::with_capacity(heap, FACTS + 1)?;
         Ok(Sheet {
             least: 0,
             most: 0,

@@ -8,10 +8,11 @@ ghost use Rattle.workbook.specs.Tables.{graph_of};
 use crate::change::{Change, Step};
 use crate::sheet::Sheet;
 use crate::tables::Tables;
+use rules::limits::SCOPES;
 use std::alloc::{AllocError, Global};
 
 // As many scopes as a graph may have, and one more.
-const SHEETS: usize = 17;
+const SHEETS: usize = SCOPES + 1;
 
 impl Tables {
     pub fn new(heap: Global) -> Result<Tables, AllocError>
