@@ -8,5 +8,4 @@ mod range;
 mod scope_search;
 pub mod solution;
 pub mod solve;
-mod table;
 mod turn;

@@ -4,11 +4,11 @@ ghost use Rattle.plain.specs.Copies.{scope_of};
 ghost use Rattle.plain.specs.Ranges.{Proper};
 ghost use Rattle.search.specs.Found.{IsCostliest};
 
-use crate::table::Table;
 use model::cost::Cost;
 use plain::plain_scope::PlainScope;
 use search::ending::Ending;
 use search::found::Costliest;
+use search::lent::Table;
 use search::values::EdgeValues;
 
 // A scope that is fit to be searched, and what its edges cost.

@@ -12,11 +12,11 @@ use crate::choice::Choice;
 use crate::progress::Progress;
 use crate::scope_search::ScopeSearch;
 use crate::solution::{Solution, Unfit};
-use crate::table::Table;
 use crate::turn::turn;
 use model::cost::Cost;
 use plain::plain_scope::PlainScope;
 use row::row::Row;
+use search::lent::Table;
 use search::values::EdgeValues;
 use trail::groups::{Groups, PassGroup};
 

@@ -7,9 +7,9 @@ use crate::costs::{better_of, joined_of, powers_of};
 use crate::progress::Progress;
 use crate::range::Range;
 use crate::scope_search::ScopeSearch;
-use crate::table::Table;
 use model::cost::Cost;
 use search::ending::Ending;
+use search::lent::Table;
 use search::values::EdgeValues;
 use trail::groups::PassGroup;
 

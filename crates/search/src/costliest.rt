@@ -8,6 +8,7 @@ use crate::ending::Ending;
 use crate::flow::Flow;
 use crate::follow::follow;
 use crate::found::Costliest;
+use crate::lent::Table;
 use crate::table::{Round, entry_at};
 use crate::usable::{is_useful, usable_edges};
 use crate::values::EdgeValues;
@@ -21,9 +22,8 @@ fn round_best<C: Cost, V: EdgeValues<C>>(
     pass: u16,
     round: u8,
     ending: Ending,
-    table: &mut [C],
+    table: &mut Table<C>,
 ) -> Costliest<C>
-    requires { 32 ≤ length table.old }
     ensures { IsRoundBest C.measure (V.EdgeValues.values values.now) (edges_of flow.now) (facts_of flow.now) pass ending round result }
 {
     let none = Costliest {
@@ -40,7 +40,7 @@ fn round_best<C: Cost, V: EdgeValues<C>>(
         ending,
     };
     let choices = search.fill(table);
-    match entry_at(table, &choices, 0) {
+    match entry_at(table.costs, &choices, 0) {
         None => none,
         Some(cost) => Costliest {
             cost: Some(cost),
@@ -71,13 +71,14 @@ impl Flow {
         if table.len() < 32 {
             return None;
         }
+        let mut table = Table { costs: table };
         let mut best = Costliest {
             cost: None,
             way: Row::new(0),
         };
         for round in 0..rounds(self.facts.len()) {
             if is_useful(self, pass, round) {
-                let found = round_best(self, values, pass, round, ending, table);
+                let found = round_best(self, values, pass, round, ending, &mut table);
                 best = costlier(best.cost, found.cost, best, found);
             }
         }

@@ -9,6 +9,7 @@ mod exits;
 pub mod flow;
 mod follow;
 pub mod found;
+pub mod lent;
 pub mod power;
 pub mod prepare;
 mod restriction;

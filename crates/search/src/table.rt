@@ -1,6 +1,5 @@
 // The table over the nodes, filled from the highest node down. The costs stand in the caller's table, which holds costs
-// alone, so the edges chosen stand in an array beside it. That the table has 32 places is asked of each function: tried:
-// an array of 32 costs behind a reference owes, in generic code, that its size is below 2^63.
+// alone, so the edges chosen stand in an array beside it.
 ghost use Rattle.std.specs.Prelude.{◌≡◌, ℕ, ◌+◌, ◌<◌, ◌≤◌, length, None};
 ghost use Rattle.model.specs.declared.graph.Target.TheVariants.{To};
 ghost use Rattle.model.specs.Best.{IsBest};
@@ -12,6 +11,7 @@ ghost use Rattle.search.specs.Walks.{TailCost, masked};
 use crate::costlier::costlier;
 use crate::ending::Ending;
 use crate::flow::Flow;
+use crate::lent::Table;
 use crate::step::Step;
 use crate::values::EdgeValues;
 use model::cost::Cost;
@@ -87,16 +87,15 @@ impl<'a, V> Round<'a, V> {
     fn best_from<C: Cost>(
         &self,
         node: usize,
-        table: &[C],
+        table: &Table<C>,
         choices: &[Option<u8>; 32],
     ) -> Option<Step<C>>
     where
         V: EdgeValues<C>,
-        requires room { 32 ≤ length table.now }
         requires low { node < 32 }
-        requires above { (v : ℕ) → node < v → v < self.now.flow.now.nodes → IsBest C.measure (TailCost C.measure (masked (V.EdgeValues.values self.now.values.now) self.now.usable) (edges_of self.now.flow.now) (stop self.now.ending) (To v)) (entry table.now choices.now v) }
+        requires above { (v : ℕ) → node < v → v < self.now.flow.now.nodes → IsBest C.measure (TailCost C.measure (masked (V.EdgeValues.values self.now.values.now) self.now.usable) (edges_of self.now.flow.now) (stop self.now.ending) (To v)) (entry table.now.costs.now choices.now v) }
         ensures best { IsBest C.measure (TailCost C.measure (masked (V.EdgeValues.values self.now.values.now) self.now.usable) (edges_of self.now.flow.now) (stop self.now.ending) (To node)) (cost_of_lem result) }
-        ensures linked { OnSome (IsStep C.measure (masked (V.EdgeValues.values self.now.values.now) self.now.usable) (edges_of self.now.flow.now) self.now.ending table.now choices.now node) result }
+        ensures linked { OnSome (IsStep C.measure (masked (V.EdgeValues.values self.now.values.now) self.now.usable) (edges_of self.now.flow.now) self.now.ending table.now.costs.now choices.now node) result }
     {
         let flow = self.flow;
         let edges = flow.edges.as_slice();
@@ -105,7 +104,7 @@ impl<'a, V> Round<'a, V> {
         while let Some(e) = exit {
             let edge = e as usize;
             let value = self.value(edge);
-            let offered = offer_of(value, edges[edge].to, self.ending, table, choices);
+            let offered = offer_of(value, edges[edge].to, self.ending, table.costs, choices);
             best = costlier_of(best, offered, e);
             exit = flow.exits.next[edge];
         }
@@ -113,18 +112,17 @@ impl<'a, V> Round<'a, V> {
     }
 
     // Fills the table and gives the first edge of the costliest walk on from each node.
-    pub fn fill<C: Cost>(&self, table: &mut [C]) -> [Option<u8>; 32]
+    pub fn fill<C: Cost>(&self, table: &mut Table<C>) -> [Option<u8>; 32]
     where
         V: EdgeValues<C>,
-        requires { 32 ≤ length table.old }
-        ensures { (k : ℕ) → k < self.now.flow.now.nodes → IsEntry C.measure (masked (V.EdgeValues.values self.now.values.now) self.now.usable) (edges_of self.now.flow.now) self.now.ending table.new result k }
+        ensures { (k : ℕ) → k < self.now.flow.now.nodes → IsEntry C.measure (masked (V.EdgeValues.values self.now.values.now) self.now.usable) (edges_of self.now.flow.now) self.now.ending table.new.costs.now result k }
     {
         let mut choices = [None; 32];
         for k in (0..self.flow.nodes).rev() {
             match self.best_from(k, table, &choices) {
                 None => choices[k] = None,
                 Some(step) => {
-                    table[k] = step.cost;
+                    table.costs[k] = step.cost;
                     choices[k] = Some(step.edge);
                 }
             }

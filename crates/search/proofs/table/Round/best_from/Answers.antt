@@ -27,7 +27,7 @@ offer_of-offered-requires g c v h =
     let t = turn_at c.args.self.now.flow.now c.args.node c.in-Some.e c.loop-exit.exit _ c.loop-exit.invariant.0 c.in-Some.is in
     let r = turn_to c.args.self.now.flow.now c.args.node _ c.in-Some.e t v (ap (λ (x : Edge). x.to) (sym (t.item (record { from = 0; to = To 0; effect = pos 0 }))) ∙ ap (λ xs. (get_or {A = Edge} xs c.in-Some.e (record { from = 0; to = To 0; effect = pos 0 })).to) (sym c.as_slice-edges.ensures) ∙ h) in
     let n = c.args.self.now.flow.now.fewnodes in
-    let room = c.requires.room in
+    let room = c.args.table.now.room in
     (omega (arith, r.1), omega (arith, r.1))
 
 pub loop-exit-smaller : goal.loop-exit-smaller
@@ -42,7 +42,7 @@ loop-exit-preserved g c =
     let k = c.args.node in
     let e = c.in-Some.e in
     let value = masked (g.V.EdgeValues.values c.args.self.now.values.now) c.args.self.now.usable in
-    let table = c.args.table.now in
+    let table = c.args.table.now.costs.now in
     let choices = c.args.choices.now in
     let best = c.loop-exit.best in
     let t = turn_at flow k e c.loop-exit.exit _ c.loop-exit.invariant.0 c.in-Some.is in

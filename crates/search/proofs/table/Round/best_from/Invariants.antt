@@ -14,7 +14,7 @@ invariant-loop-exit g l =
     let value = masked (g.V.EdgeValues.values l.self.values.now) l.self.usable in
     let edges = edges_of l.self.flow.now in
     ((i : ℕ) × (l.exit ≡ exit_from edges l.node i) × IsBest m (FromBelow g.C.Cost.laws value edges l.self.ending l.node i) (cost_of_lem l.best))
-    × OnSome (IsStep m value edges l.self.ending l.table l.choices l.node) l.best
+    × OnSome (IsStep m value edges l.self.ending l.table.costs.now l.choices l.node) l.best
 
 abbrev pub decreases-loop-exit : goal.decreases-loop-exit
 decreases-loop-exit g l = past 96 l.exit

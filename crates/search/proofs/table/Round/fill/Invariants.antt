@@ -8,4 +8,4 @@ use Rattle.search.proofs.table.Round.fill.Given as goal
 abbrev pub invariant-loop-k : goal.invariant-loop-k
 invariant-loop-k g l =
     (length l.choices ≡ 32)
-    × ((j : ℕ) → l.k ≤ j → j < l.self.flow.now.nodes → IsEntry g.C.Cost.measure (masked (g.V.EdgeValues.values l.self.values.now) l.self.usable) (edges_of l.self.flow.now) l.self.ending l.table l.choices j)
+    × ((j : ℕ) → l.k ≤ j → j < l.self.flow.now.nodes → IsEntry g.C.Cost.measure (masked (g.V.EdgeValues.values l.self.values.now) l.self.usable) (edges_of l.self.flow.now) l.self.ending l.table.costs.now l.choices j)

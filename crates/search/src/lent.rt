@@ -1,4 +1,4 @@
-// The table of a search.
+// The lent table of a search.
 ghost use Rattle.std.specs.Prelude.{◌≤◌, length};
 
 // Lent costs, with a place for each node of a scope. No array: it is not known in generic code that 32 costs fit memory.
