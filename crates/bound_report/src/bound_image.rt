@@ -30,7 +30,8 @@ fn shown_passes(heap: Global, trail: &[Line], scopes: usize) -> Result<Vec<u16>,
         .collect(heap)
 }
 
-// The bounds of the image's graph in cycles and in stack, or why it is refused.
+// The bounds of the image's graph in cycles and in stack, or why it is refused. Memory and refusals are two results,
+// since the caller prints the one and hands on the other: one error for both would be taken apart again.
 pub fn bound_image(heap: Global, bytes: &[u8]) -> Result<Result<Bounds, Refusal>, AllocError>
     ensures { IfOk result (λ x. ComesTo bytes.now x) }
 {

@@ -6,7 +6,7 @@ use measures::cycles::Cycles;
 use measures::stack::Stack;
 use std::fmt;
 
-// The bounds of scope 0, and the passes of the run in the cycles trail of each scope: 0 where it has none.
+// The bounds of scope 0, and the passes of the run in the cycles trail of each scope: 0 where it has none, as the text says.
 #[derive(Drop)]
 pub struct Bounds {
     pub cycles: Cycles,

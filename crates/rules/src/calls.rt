@@ -18,7 +18,7 @@ fn callee<G: ScopeGraph>(graph: &G, scope: usize, n: usize) -> Option<usize>
     }
 }
 
-// The scopes that a scope calls. Tried: a fold with a closure that marks the row is no plainer.
+// The scopes that a scope calls. A chain would have to carry the row along: that is no plainer.
 fn calls_of<G: ScopeGraph>(graph: &G, scope: usize) -> [bool; SCOPES]
     ensures { Row (G.ScopeGraph.graph graph.now) scope result }
 {
