@@ -28,6 +28,7 @@ pub fn settle_all<C: Cost, G: ScopeGraph>(
     ensures rest { drop (size * length (G.ScopeGraph.graph graph.now)) trail.new ≡ drop (size * length (G.ScopeGraph.graph graph.now)) trail.old }
 {
     let mut solved = [false; SCOPES];
+    // by place: what is known of the scopes so far is said by places of the order
     for place in 0..graph.scopes() {
         settle(graph, order, place, bounds, &mut solved, table, trail);
     }

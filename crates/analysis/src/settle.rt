@@ -14,7 +14,8 @@ use plain::edge_value::ScopeValues;
 use rules::limits::SCOPES;
 use trail::write::{clear_section, write_section};
 
-// The scope at this place of the order, worked out by the bounds of the scopes that it calls, and written down.
+// The scope at this place of the order, worked out by the bounds of the scopes that it calls, and written down. What it asks
+// stands in `settle_all` too: a type for two functions, over lent tables, would need more clauses.
 #[tactic(auto, using(crate::proofs::Steps::number_few))]
 pub fn settle<C: Cost, G: ScopeGraph>(
     graph: &G,

@@ -63,6 +63,7 @@ fn search_ranges<C: Cost, V: EdgeValues<C>>(
         groups: Row::new(blank),
         best: None,
     };
+    // from range to range, not from pass to pass
     while progress.done < search.scope.most {
         let Some(front) = progress.front else {
             return progress;

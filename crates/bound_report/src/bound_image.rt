@@ -12,7 +12,7 @@ use model::scope_graph::ScopeGraph;
 use model::trail::{Line, SECTION};
 use std::alloc::{AllocError, Global};
 
-// The passes in the section of a scope, and 0 where it has none.
+// The passes in the section of a scope, and 0 where it has none: that is the number which the text has for it.
 fn passes_of(trail: &[Line], scope: usize) -> u16
     requires { scope < 16 }
     ensures { result ≡ passes_shown trail.now scope }

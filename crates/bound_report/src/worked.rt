@@ -24,12 +24,7 @@ pub fn work_out<C: Cost + Clone, G: ScopeGraph>(
     ensures { IfOk result (λ w. WorkedOut C.measure (G.ScopeGraph.graph graph.now) w.trail.items w.answer) }
 {
     let mut work = vec![in heap; C::nothing(); WORK]?;
-    let blank = Line {
-        kind: 0,
-        a: 0,
-        b: 0,
-    };
-    let mut trail = vec![in heap; blank; SCOPES * SECTION]?;
+    let mut trail = vec![in heap; Line::default(); SCOPES * SECTION]?;
     let answer = analyze(graph, work.as_mut_slice(), trail.as_mut_slice());
     Ok(Worked { answer, trail })
 }

@@ -1,5 +1,6 @@
 // The calls that C programs make. Each gives 0 and writes the bound, or gives the number of a refusal and leaves the
-// place of the bound as it is. The tables are as the analysis leaves them, and untouched where opening refuses.
+// place of the bound as it is. C has no results and no generics: so the answer is a number, and there is a call for each
+// measure. The tables are as the analysis leaves them, and untouched where opening refuses.
 ghost use Rattle.std.specs.Prelude.{◌≡◌, Result};
 ghost use Rattle.measures.specs.Meanings.{cycles, stack};
 ghost use Rattle.measures.specs.declared.cycles.Cycles.{Cycles};

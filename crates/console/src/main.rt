@@ -25,6 +25,7 @@ mod sample;
 // The most that is read of a script, in bytes.
 const MOST_READ: u64 = 1_000_000;
 
+// Two switches of which neither excludes the other: an enum would be no plainer.
 #[derive(Clone, Copy, Default)]
 struct Options {
     sample: bool,
@@ -74,12 +75,7 @@ fn read_script(heap: Global, text: &str) -> anyhow::Result<Vec<Call>> {
 fn answer<C: Cost + Clone + CostText>(rt: &HostRuntime, calls: &[Call]) -> anyhow::Result<()> {
     let heap = rt.alloc();
     let mut work = vec![in heap; C::nothing(); WORK]?;
-    let blank = Line {
-        kind: 0,
-        a: 0,
-        b: 0,
-    };
-    let mut trail = vec![in heap; blank; SCOPES * SECTION]?;
+    let mut trail = vec![in heap; Line::default(); SCOPES * SECTION]?;
     let answers = play(heap, calls, work.as_mut_slice(), trail.as_mut_slice())?;
     let text = answer_lines(heap, answers.as_slice())?;
     rt.print(text.as_str())?;

@@ -21,6 +21,7 @@ fn fill<G: ScopeGraph, L: Listing<G>, const N: usize>(
     requires { items_of row.old ≡ [] }
     ensures { (s : Scope) → L.Listing.scope list.now graph.now ≡ Some s → MatchOption result (N < length (L.Listing.list s)) (λ u. items_of row.new ≡ L.Listing.list s) }
 {
+    // a holder is asked by number
     for i in 0..list.count(graph)? {
         row.push(list.get(graph, i)?).ok()?;
     }

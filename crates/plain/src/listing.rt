@@ -24,6 +24,7 @@ pub trait Listing<G: ScopeGraph> {
         ensures { result ≡ in_scope (scope self.now graph.now) (λ s. slice_get (list s) i) };
 }
 
+// An impl for each list, since each names its own question of the holder.
 impl<G: ScopeGraph> Listing<G> for Nodes {
     type Item = Node;
 

@@ -76,6 +76,7 @@ impl Flow {
             cost: None,
             way: Row::new(0),
         };
+        // by number: its digits say which nodes are avoided
         for round in 0..rounds(self.facts.len()) {
             if is_useful(self, pass, round) {
                 let found = round_best(self, values, pass, round, ending, &mut table);

@@ -22,6 +22,7 @@ use model::graph::Target;
 pub struct Round<'a, V> {
     pub flow: &'a Flow,
     pub values: &'a V,
+    // beside the edges, in fixed memory: nothing is allocated
     pub usable: [bool; 96],
     pub ending: Ending,
 }
@@ -101,6 +102,7 @@ impl<'a, V> Round<'a, V> {
         let edges = flow.edges.as_slice();
         let mut best = None;
         let mut exit = flow.exits.first[node];
+        // along the chain of the edges out of the node
         while let Some(e) = exit {
             let edge = e as usize;
             let value = self.value(edge);
@@ -118,6 +120,7 @@ impl<'a, V> Round<'a, V> {
         ensures { (k : ℕ) → k < self.now.flow.now.nodes → IsEntry C.measure (masked (V.EdgeValues.values self.now.values.now) self.now.usable) (edges_of self.now.flow.now) self.now.ending table.new.costs.now result k }
     {
         let mut choices = [None; 32];
+        // by number: it is the place of the node in the table and in the choices alike
         for k in (0..self.flow.nodes).rev() {
             match self.best_from(k, table, &choices) {
                 None => choices[k] = None,

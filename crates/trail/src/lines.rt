@@ -49,11 +49,7 @@ pub fn edge_line(scope: &PlainScope, edge: u8) -> Line
 pub fn zero_line() -> Line
     ensures { result ≡ line 0 0 0 }
 {
-    Line {
-        kind: 0,
-        a: 0,
-        b: 0,
-    }
+    Line::default()
 }
 
 // Writes the lines of a way from `at` on, and says where they end.

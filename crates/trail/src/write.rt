@@ -36,7 +36,8 @@ fn write_lines(trail: &mut [Line], at: usize, scope: &PlainScope, passes: u16, g
 }
 
 // Writes the section of this number: the number of passes, and the groups with their ways, which are in this scope.
-// It says whether the table has such a section, and leaves all else in the table as it was.
+// It says whether the table has such a section, and leaves all else in the table as it was. That is a yes or no with no
+// value beside: a Result would be no plainer.
 pub fn write_section(
     trail: &mut [Line],
     number: usize,
