@@ -31,7 +31,7 @@ pub fn call_order<G: ScopeGraph>(graph: &G) -> Option<[u8; SCOPES]>
     let table = call_table(graph);
     let mut order = [0; SCOPES];
     let mut placed = [false; SCOPES];
-    // By index: what is written through `iter_mut` is not known after it.
+    // by number: it is the place in the order; a chain would have to carry both arrays along, and is no plainer
     for k in 0..scopes {
         let scope = next_ready(&table, &placed, scopes)?;
         placed[scope] = true;

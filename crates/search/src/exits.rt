@@ -21,8 +21,8 @@ pub fn exits_of(edges: &[Edge]) -> Exits
 {
     let mut first = [None; 32];
     let mut next = [None; 96];
-    // by its number, which is what is kept; tried: the loop over `edges.iter().enumerate().rev()` knows the list of what
-    // came, not the number, and its proof did not close
+    // by its number, which is what is kept: a loop over `edges.iter().enumerate().rev()` would know the list of what came
+    // and not the number, and is no plainer
     for e in (0..edges.len()).rev() {
         let from = edges[e].from as usize;
         next[e] = first[from];
