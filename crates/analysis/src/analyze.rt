@@ -13,7 +13,7 @@ use rules::order::call_order;
 // The least work table. Its first places are for the bounds of the scopes, the others for the search.
 pub const WORK: usize = 128;
 
-// The bound of scope 0, with the bound of every scope in the work table and a worst-case run of each in the trail.
+// The tables are lent, since nothing is allocated here. The bound of scope 0, with the bound of every scope in the work table and a worst-case run of each in the trail.
 pub fn analyze<C: Cost, G: ScopeGraph>(
     graph: &G,
     work: &mut [C],

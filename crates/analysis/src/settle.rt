@@ -22,6 +22,7 @@ pub fn settle<C: Cost, G: ScopeGraph>(
     order: &[u8; SCOPES],
     place: usize,
     bounds: &mut [C],
+    // beside the bounds, whose lent table holds costs alone
     solved: &mut [bool; SCOPES],
     table: &mut [C],
     trail: &mut [Line],
@@ -36,6 +37,7 @@ pub fn settle<C: Cost, G: ScopeGraph>(
     ensures sofar { AreSettled C.measure (G.ScopeGraph.graph graph.now) bounds.new trail.new solved.new order.now (place + 1) }
     ensures rest { drop (size * length (G.ScopeGraph.graph graph.now)) trail.new ≡ drop (size * length (G.ScopeGraph.graph graph.now)) trail.old }
 {
+    // a cast: tried `usize::from`, whose answer the facts on the order did not follow
     let number = order[place] as usize;
     let scope = copy_scope(graph, number).unwrap();
     let values = ScopeValues {

@@ -95,6 +95,7 @@ pub fn solve<C: Cost, V: EdgeValues<C>>(
     let search = ScopeSearch { scope, values };
     let mut table = Table { costs: table };
     let Progress { best, groups, .. } = search_ranges(&search, &mut table);
+    // a match, in which what is known of the choice is at hand
     match best {
         None => Ok(None),
         Some(choice) => Ok(Some(Solution {

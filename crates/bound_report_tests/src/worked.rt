@@ -18,15 +18,13 @@ fn check_said(
     add_all(&mut records, body)?;
     add_all(&mut records, facts)?;
     let bytes = image(rt.alloc(), records.as_slice())?;
-    let (text, refused) = match report_image(rt.alloc(), bytes.as_slice())? {
-        Ok(text) => (text, false),
-        Err(line) => (line, true),
-    };
+    let said = report_image(rt.alloc(), bytes.as_slice())?;
+    if said.is_err() != expected.starts_with("refused") {
+        return Err(Fail::new("another word on the refusal"));
+    }
+    let text = said.unwrap_or_else(|line| line);
     if text.as_str() != expected {
         return Err(Fail::new(text.as_str()));
-    }
-    if refused != expected.starts_with("refused") {
-        return Err(Fail::new("another word on the refusal"));
     }
     Ok(())
 }

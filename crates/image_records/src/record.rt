@@ -16,7 +16,7 @@ pub enum Record {
     Pair(u8, u8, u8, u16, u16),
 }
 
-// Where an edge to no node leads.
+// Where an edge to no node leads. Targets and kinds are the bytes themselves here, so that tests can write any image.
 pub const AGAIN: u8 = 254;
 
 pub const LEAVE: u8 = 255;

@@ -2,7 +2,7 @@
 ghost use Rattle.std.specs.Prelude.{◌≡◌};
 ghost use Rattle.model.specs.Measures.{Measure, Laws};
 
-// A cost measure: costs that are joined along a run and compared. Every `impl` proves the laws.
+// A cost measure, with its own order, since the project asks for this interface: costs that are joined along a run and compared. Every `impl` proves the laws.
 pub trait Cost: Copy {
     ghost measure: { Measure Self };
 

@@ -12,7 +12,7 @@ pub trait ScopeGraph {
     fn scopes(&self) -> usize
         ensures { result ≡ length (graph self.now) };
 
-    // The least and the most number of passes of a scope.
+    // The least and the most number of passes of a scope: a pair, as the project asks.
     fn passes(&self, scope: usize) -> Option<(u16, u16)>
         ensures { result ≡ passes_at (graph self.now) scope };
 

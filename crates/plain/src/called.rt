@@ -20,8 +20,8 @@ impl PlainScope {
     pub fn called(&self, edge: u8) -> Option<u8>
         ensures { shown_call result ≡ called (scope_of self.now) (slice_get (scope_of self.now).edges edge) }
     {
-        let edge = self.flow.edges.get(edge as usize)?;
-        match self.node(edge.from as usize)? {
+        let edge = self.flow.edges.get(usize::from(edge))?;
+        match self.node(usize::from(edge.from))? {
             Node::Call { scope } => Some(scope),
             Node::Block { .. } => None,
         }

@@ -6,11 +6,12 @@ ghost use Rattle.plain.specs.Copies.{Copied};
 
 use crate::listing::Listing;
 use crate::plain_scope::PlainScope;
-use model::graph::{Constraint, Edge, Fact, Node, Target};
+use model::graph::{Edge, Fact, Node};
 use model::lists::{Edges, Facts, Nodes};
 use model::scope_graph::ScopeGraph;
 use row::row::Row;
 use search::flow::Flow;
+use search::prepare::{NO_EDGE, NO_FACT};
 
 // The items of a list go into an empty row; none where they are too many.
 fn fill<G: ScopeGraph, L: Listing<G>, const N: usize>(
@@ -21,7 +22,7 @@ fn fill<G: ScopeGraph, L: Listing<G>, const N: usize>(
     requires { items_of row.old ≡ [] }
     ensures { (s : Scope) → L.Listing.scope list.now graph.now ≡ Some s → MatchOption result (N < length (L.Listing.list s)) (λ u. items_of row.new ≡ L.Listing.list s) }
 {
-    // a holder is asked by number
+    // a holder is asked by number and has no slices, so a chain would be one over numbers too
     for i in 0..list.count(graph)? {
         row.push(list.get(graph, i)?).ok()?;
     }
@@ -35,17 +36,9 @@ pub fn copy_scope<G: ScopeGraph>(graph: &G, scope: usize) -> Option<PlainScope>
     let (least, most) = graph.passes(scope)?;
     let mut nodes = Row::<Node, 32>::new(Node::Call { scope: 0 });
     fill(&mut nodes, graph, &Nodes(scope))?;
-    let mut edges = Row::<Edge, 96>::new(Edge {
-        from: 0,
-        to: Target::Leave,
-        effect: 0,
-    });
+    let mut edges = Row::<Edge, 96>::new(NO_EDGE);
     fill(&mut edges, graph, &Edges(scope))?;
-    let mut facts = Row::<Fact, 4>::new(Fact {
-        constraint: Constraint::Bar(0),
-        first: 0,
-        last: 0,
-    });
+    let mut facts = Row::<Fact, 4>::new(NO_FACT);
     fill(&mut facts, graph, &Facts(scope))?;
     let flow = Flow::new(nodes.len(), edges.as_slice(), facts.as_slice())?;
     Some(PlainScope {

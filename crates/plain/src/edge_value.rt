@@ -43,7 +43,7 @@ impl<'a, C: Cost> ScopeValues<'a, C> {
         ensures { result ≡ bound_at self.now.bounds.now self.now.solved.now scope }
     {
         let ScopeValues { bounds, solved, .. } = *self;
-        let scope = scope as usize;
+        let scope = usize::from(scope);
         if *solved.get(scope)? {
             bounds.get(scope).copied()
         } else {
@@ -68,7 +68,7 @@ impl<'a, C: Cost> EdgeValues<C> for ScopeValues<'a, C> {
 
     fn value(&self, edge: usize) -> Option<C> {
         let edge = self.scope.flow.edges.get(edge)?;
-        let node = self.scope.node(edge.from as usize)?;
+        let node = self.scope.node(usize::from(edge.from))?;
         self.value_from(edge, node)
     }
 }

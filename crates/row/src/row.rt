@@ -14,6 +14,7 @@ pub struct Row<T, const N: usize> {
     ghost short: { len ≤ N },
 }
 
+// By hand: a derive is refused over the ghost fields of a generic struct.
 impl<T: Copy, const N: usize> Copy for Row<T, N> {}
 
 impl<T: Copy, const N: usize> Clone for Row<T, N> {

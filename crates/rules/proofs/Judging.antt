@@ -10,7 +10,7 @@ use Rattle.model.specs.Rules.{SomeIn, TooMany, Ring, Breaks, Judged}
 use Rattle.rules.specs.Faults.{lower, found, lowest, node_fault_lem, edge_fault_lem, fact_fault_lem, scope_fault, scope_finding_lem, too_many, over, WithinLimits}
 use Rattle.rules.proofs.Items.{PassesBreak, NodeBreaks, EdgeBreaks, FactBreaks, least_passes, least_node, least_edge, least_fact}
 use Rattle.rules.proofs.Least.{Least, least_like, least_join, least_lowest, least_found}
-use Rattle.rules.proofs.Rows.{nth_below}
+use Rattle.std.proofs.lemmas.Option.{slice_get_within}
 
 -- what a scope breaks
 abbrev pub ScopeBreaks : List Scope → Scope → Refusal → Type 0
@@ -21,7 +21,7 @@ least_list : {A : Type 0} (xs : List A) (look : ℕ → Option A) (f : A → Opt
 least_list {A} xs look f P same each =
     least_like _ (λ x. SomeIn xs (λ a. P a x))
     (λ x w. (w.0, w.2.0, sym (same w.0) ∙ w.2.1, w.2.2))
-    (λ x w. (w.0, nth_below xs w.0 w.1 w.2, (w.1, same w.0 ∙ w.2, w.3)))
+    (λ x w. (w.0, slice_get_within xs w.0 w.1 w.2, (w.1, same w.0 ∙ w.2, w.3)))
     _ (least_lowest (λ k. found f (look k)) (λ k x. (a : A) × (look k ≡ Some a) × P a x) (length xs) (λ k. least_found f P (look k) (λ a e. each a)))
 
 least_scope : (g : List Scope) (i : ℕ) (s : Scope) → slice_get g i ≡ Some s → Least (ScopeBreaks g s) (scope_fault g (length g) i s)
@@ -42,7 +42,7 @@ least_scopes : (g : List Scope) → Least (λ x. SomeIn g (λ s. ScopeBreaks g s
 least_scopes g =
     least_like _ (λ x. SomeIn g (λ s. ScopeBreaks g s x))
     (λ x w. (w.0, w.2.0, w.2.1, w.2.2))
-    (λ x w. (w.0, nth_below g w.0 w.1 w.2, (w.1, w.2, w.3)))
+    (λ x w. (w.0, slice_get_within g w.0 w.1 w.2, (w.1, w.2, w.3)))
     _ (least_lowest (scope_finding_lem g (length g)) (λ i x. (s : Scope) × (slice_get g i ≡ Some s) × ScopeBreaks g s x) (length g) (λ i. least_in (ScopeBreaks g) (slice_get g i) (scope_fault g (length g) i) (least_scope g i)))
 
 -- past the first two rules, what is broken is broken in a scope or is a ring
@@ -142,7 +142,7 @@ decides_many s =
 under : (g : List Scope) → WithinLimits g → Breaks g OverLimit → ⊥
 under g size w = elim w [
   | inl p ↦ (let few = size.1 in omega arith)
-  | inr q ↦ not_from_Decides (too_many q.1) (decides_many q.1) (ap over (sym q.2) ∙ size.2 q.0 (nth_below g q.0 q.1 q.2)) q.3
+  | inr q ↦ not_from_Decides (too_many q.1) (decides_many q.1) (ap over (sym q.2) ∙ size.2 q.0 (slice_get_within g q.0 q.1 q.2)) q.3
 ]
 
 least_rest : (g : List Scope) → WithinLimits g → (r : Option Refusal) → Least (Rest g) r → Judged g r

@@ -8,7 +8,7 @@ use Rattle.model.specs.declared.graph.Node.TheVariants.{Call}
 use Rattle.model.specs.Graph.{Scope, in_scope}
 use Rattle.model.specs.Rules.{Calls, Reaches, directly, through, Ring}
 use Rattle.rules.specs.CallOrders.{CalledFirst, Ordered}
-use Rattle.rules.proofs.Rows.{nth_below}
+use Rattle.std.proofs.lemmas.Option.{slice_get_within}
 
 -- Among the numbers below n that are in U, each leads to another one that is: so some number leads to itself.
 -- The greatest is left out: who led to it leads on to where it leads.
@@ -37,7 +37,7 @@ reaches_join g a b c (through {j = j} p r) q = through p (reaches_join g j b c r
 -- a scope that calls or reaches another is there
 there : (o : Option Scope) (g : List Scope) (i n : ℕ) (x : Node) → slice_get g i ≡ o → in_scope o (λ s. slice_get s.nodes n) ≡ Some x → i < length g
 there None g i n x e h = let z : ◌≡◌ {A = ℕ} 0 1 = cc in absurd (omega arith)
-there (Some s) g i n x e h = nth_below g i s e
+there (Some s) g i n x e h = slice_get_within g i s e
 
 pub caller_there : (g : List Scope) (i j : ℕ) → Calls g i j → i < length g
 caller_there g i j c = there (slice_get g i) g i c.0 (Call j) refl c.1

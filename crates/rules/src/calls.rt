@@ -18,7 +18,8 @@ fn callee<G: ScopeGraph>(graph: &G, scope: usize, n: usize) -> Option<usize>
     }
 }
 
-// The scopes that a scope calls. A chain would have to carry the row along: that is no plainer.
+// The scopes that a scope calls, in fixed memory. A graph is asked by number and has no slices: a chain over the numbers
+// is no plainer.
 fn calls_of<G: ScopeGraph>(graph: &G, scope: usize) -> [bool; SCOPES]
     ensures { Row (G.ScopeGraph.graph graph.now) scope result }
 {

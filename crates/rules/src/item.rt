@@ -29,7 +29,7 @@ pub fn node_fault(scopes: usize, node: Node) -> Option<Refusal>
 fn effect_over(effect: i32) -> bool
     ensures { result ≡ effect_over_lem effect }
 {
-    effect < -LARGEST || LARGEST < effect
+    !(-LARGEST..=LARGEST).contains(&effect)
 }
 
 fn leads_beyond(nodes: usize, to: Target) -> bool

@@ -40,7 +40,8 @@ fn size_fault<G: ScopeGraph>(graph: &G) -> Option<Refusal>
     }
 }
 
-// The broken rule of the smallest number in a graph, if any is broken.
+// The broken rule of the smallest number in a graph, if any is broken: a finding and no failure of this call, and findings
+// are joined as options.
 pub fn first_broken<G: ScopeGraph>(graph: &G) -> Option<Refusal>
     ensures { Judged (G.ScopeGraph.graph graph.now) result }
 {

@@ -1,4 +1,5 @@
-// An order of the scopes in which every called scope stands before its callers.
+// An order of the scopes in which every called scope stands before its callers. Rows and marks stand in fixed memory:
+// nothing is allocated.
 ghost use Rattle.std.specs.Prelude.{◌≤◌};
 ghost use Rattle.rules.specs.CallOrders.{Next, Ordered};
 

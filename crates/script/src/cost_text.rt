@@ -5,7 +5,8 @@ use measures::cycles::Cycles;
 use measures::stack::Stack;
 use std::fmt;
 
-// A cost whose display is known.
+// A cost whose display is known: what stands in a display may be left open, so the text is said here, and tied to it by a
+// law.
 pub trait CostText: fmt::Display {
     ghost said: { Self → List ℕ };
 

@@ -24,6 +24,7 @@ pub fn exits_of(edges: &[Edge]) -> Exits
     // by its number, which is what is kept: a loop over `edges.iter().enumerate().rev()` would know the list of what came
     // and not the number, and is no plainer
     for e in (0..edges.len()).rev() {
+        // casts: the one is known to fit, and so the other is no plainer by `usize::from`
         let from = edges[e].from as usize;
         next[e] = first[from];
         first[from] = Some(e as u8);

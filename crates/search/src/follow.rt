@@ -18,12 +18,13 @@ pub fn follow(flow: &Flow, choices: &[Option<u8>; 32]) -> Way
     let edges = flow.edges.as_slice();
     let mut way = Row::new(0);
     let mut place = Target::To(0);
+    // casts: tried `usize::from`, whose answers the facts on the walk did not follow
     while let Target::To(node) = place {
         let Some(edge) = choices[node as usize] else {
             return way;
         };
         // there is room: the walk goes on to later nodes alone
-        let _ = way.push(edge);
+        way.push(edge).unwrap();
         place = edges[edge as usize].to;
     }
     way

@@ -12,6 +12,7 @@ pub fn power_of<C: Cost>(cost: C, times: u32) -> C
     let mut left = times;
     let mut square = cost;
     let mut sum = C::nothing();
+    // by halving: no index is counted
     while left > 0 {
         if left % 2 == 1 {
             sum = sum.join(square);

@@ -9,13 +9,13 @@ use model::graph::{Constraint, Edge, Fact, Target};
 use row::row::Row;
 
 // What fills the places that are not taken.
-const NO_EDGE: Edge = Edge {
+pub const NO_EDGE: Edge = Edge {
     from: 0,
     to: Target::Leave,
     effect: 0,
 };
 
-const NO_FACT: Fact = Fact {
+pub const NO_FACT: Fact = Fact {
     constraint: Constraint::Bar(0),
     first: 0,
     last: 0,
@@ -25,9 +25,9 @@ const NO_FACT: Fact = Fact {
 fn leads_forward(edge: Edge, nodes: usize) -> bool
     ensures { result ≡ leads_forward_lem nodes edge }
 {
-    (edge.from as usize) < nodes
+    usize::from(edge.from) < nodes
         && match edge.to {
-            Target::To(v) => edge.from < v && (v as usize) < nodes,
+            Target::To(v) => edge.from < v && usize::from(v) < nodes,
             Target::Again | Target::Leave => true,
         }
 }

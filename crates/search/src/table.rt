@@ -49,6 +49,7 @@ fn offer_of<C: Cost>(
     let cost = value?;
     match to {
         Target::To(v) => {
+            // a cast, as below
             let rest = entry_at(table, choices, v as usize)?;
             Some(cost.join(rest))
         }
@@ -104,6 +105,7 @@ impl<'a, V> Round<'a, V> {
         let mut exit = flow.exits.first[node];
         // along the chain of the edges out of the node
         while let Some(e) = exit {
+            // a cast: tried `usize::from`, whose answer the facts on the edge did not follow
             let edge = e as usize;
             let value = self.value(edge);
             let offered = offer_of(value, edges[edge].to, self.ending, table.costs, choices);

@@ -1,4 +1,5 @@
-// The lines of a section, and writing them one after the other.
+// The lines of a section, and writing them one after the other: their kinds are numbers, for C. Each call needs room of
+// its own and says where it ends; a writer with the table and the place in it would say both for each call too.
 ghost use Rattle.std.specs.Prelude.{◌≡◌, ◌+◌, ◌-◌, ◌≤◌, [], ◌∷◌, length, replicate};
 ghost use Rattle.std.specs.List.{slice_get};
 ghost use Rattle.model.specs.Trail.{line, called, way_lines, group_lines};

@@ -1,5 +1,5 @@
 // The scopes of a workbook, those in use and the spare ones: one more in all than a graph may have, so that a new one
-// can be tried. A table may break the rules of graphs.
+// can be tried. All their memory is taken at the making, so those not in use wait here. A table may break the rules of graphs.
 ghost use Rattle.std.specs.Prelude.{◌≡◌, ◌+◌, ◌≤◌, vec_len, vec_capacity};
 
 use crate::sheet::Sheet;

@@ -1,10 +1,9 @@
 // Lists of calls with their answers.
 use crate::step::Step;
 use crate::step::Step::{Bar, Block, Edge, Figures, Passes, Scope, Strike};
-use analysis::analyze::WORK;
 use measures::cycles::Cycles;
 use model::graph::Target::{Again, Leave, To};
-use model::trail::{Line, SECTION};
+use model::trail::Line;
 use session::call::Reply::{Bound, Done, Number};
 use session::call::{Answer, Call, Reply};
 use session::play::play;
@@ -28,12 +27,12 @@ fn check_play(rt: &HostRuntime, turns: &[Turn]) -> Result<(), Fail> {
     for (step, _) in turns {
         calls.push(step.map_or(Call::WorkOut, |step| Call::Edit(Edit::from(step))))?;
     }
-    let mut work = [Cycles { count: 0 }; WORK];
+    let mut work = [Cycles { count: 0 }; 128];
     let mut trail = [Line {
         kind: 9,
         a: 9,
         b: 9,
-    }; SECTION];
+    }; 331];
     let answers = play(rt.alloc(), calls.as_slice(), &mut work, &mut trail)?;
     if answers.len() != turns.len() {
         return Err(Fail::new("another number of answers"));

@@ -73,10 +73,9 @@ impl From<Step> for Edit {
 
 // The number of the refusal, none where the step is taken.
 fn refusal(book: &mut Workbook, step: Step) -> Option<u8> {
-    match book.edit(Edit::from(step)) {
-        Ok(_) => None,
-        Err(refusal) => Some(refusal.number()),
-    }
+    book.edit(Edit::from(step))
+        .err()
+        .map(|refusal| refusal.number())
 }
 
 // The counts of the workbook and of scope 0, the passes of scope 0 and its first node.

@@ -1,4 +1,4 @@
-// What a workbook answers of the graph that it means.
+// What a workbook answers of the graph that it means. Its tables may break the rules, so it hands each question on.
 ghost use Rattle.workbook.specs.Books.{book_graph};
 
 use crate::book::Workbook;

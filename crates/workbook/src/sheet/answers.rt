@@ -1,4 +1,4 @@
-// What a sheet holds.
+// What a sheet holds: a question for each of its lists, as a graph has them, so one for all would be no plainer.
 ghost use Rattle.std.specs.Prelude.{◌≡◌, length};
 ghost use Rattle.std.specs.List.{slice_get};
 ghost use Rattle.workbook.specs.Sheets.{scope_of};

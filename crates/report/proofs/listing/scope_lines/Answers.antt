@@ -1,6 +1,6 @@
 use Rattle.std.proofs.Common.{string_bytes, sym, ap, ◌∙◌, arith}
 use Rattle.report.specs.Lines.{line_of}
-use Rattle.report.proofs.Lines.{line_more, has_line, all_lines}
+use Rattle.report.proofs.Lines.{line_more, has_line}
 use Rattle.report.proofs.listing.scope_lines.Goals as goal
 use Rattle.report.proofs.listing.scope_lines.Goals.{in-Some+in_ok-writeln, in_default}
 
@@ -11,6 +11,3 @@ loop-scope-preserved g c =
           line_more (g.G.ScopeGraph.graph c.args.graph.now) c.loop-scope.scope (string_bytes c.loop-scope.text) _ _ w.in-Some.line (sym w.in-Some.ensures) (ap string_bytes w.text-is ∙ w.in_ok-writeln.ensures.bytes) c.loop-scope.invariant
       | in_default w ↦ absurd (has_line (g.G.ScopeGraph.graph c.args.graph.now) c.loop-scope.scope (line_of c.loop-scope.scope) (omega arith) (sym w.in_default.ensures))
     ]
-
-pub returns : goal.returns
-returns g c = all_lines (g.G.ScopeGraph.graph c.args.graph.now) _ _ _ (omega arith) c.loop-scope.invariant
