@@ -13,7 +13,8 @@ use Rattle.model.specs.Runs.Run.{run}
 use Rattle.model.specs.Runs.Passes.{final, then}
 use Rattle.model.specs.Runs.Walk.{done, step}
 use Rattle.model.specs.Runs.Inside.{block, call}
-use Rattle.examples.proofs.Sets.{In, Lists, in_left, in_right, in_either, only, when, in_when, when_in, in_map, map_in, in_joined, joined_in, those, in_those, those_in, below, in_below, each, each_in, nth_in, nth_below}
+use Rattle.std.proofs.lemmas.Option.{slice_get_within}
+use Rattle.examples.proofs.Sets.{In, Lists, in_left, in_right, in_either, only, when, in_when, when_in, in_map, map_in, in_joined, joined_in, those, in_those, those_in, below, in_below, each, each_in, nth_in}
 use Rattle.examples.proofs.Facts.{meets, decides_meets, same_place, place_same, same_from}
 
 -- what a node holds, if the runs of the called scopes are listed
@@ -88,7 +89,7 @@ module _ (g : List Scope) (s : Scope) (runs_of : ℕ → List Run) (called : (n 
       let on : enough s f x.to ≡ true = if_then (same_place from (To x.from)) (enough s f x.to) (each_in (λ y. not (same_place from (To y.from)) || enough s f y.to) s.edges x n (nth_in s.edges e x h.1)) (same_from from (To x.from) h.2) in
       let P : Option Edge → Type 0 = λ o. In (step i e w) (along runs_of s (walks runs_of s end f) from e o) in
       in_right (step i e w) (when (same_place from end) (done ∷ [])) (flat_map by (below (length s.edges)))
-      (in_joined by e (step i e w) (below (length s.edges)) (in_below e (length s.edges) (nth_below s.edges e x h.1))
+      (in_joined by e (step i e w) (below (length s.edges)) (in_below e (length s.edges) (slice_get_within s.edges e x h.1))
       (subst P (sym h.1) (along_complete from (walks runs_of s end f) e x i w h.2 h.3 (walks_complete f end x.to on w h.4))))
 
 -- more than the edges of any walk, where node numbers rise along edges
