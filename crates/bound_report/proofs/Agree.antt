@@ -57,6 +57,10 @@ no_reason g e (k, r) (inl p) = k e p.broken
 no_reason g e (k, r) (inr p) = p.1.0 r.0 r.1
 
 module _ {C D : Type 0} (m : Measure C) (n : Measure D) (g : List Scope) (t u : List Line) where
+  -- where one measure gives a bound, the other does not refuse
+  pub not_refused : (c : C) (e : Refusal) → WorkedOut m g t (Ok c) → WorkedOut n g u (Err e) → ⊥
+  not_refused c e w v = no_reason g e (says m g t (Ok c) w) (says n g u (Err e) v)
+
   -- where one refuses, the other does with the same number
   pub refused_alike : (e : Refusal) (r : Result D Refusal) → WorkedOut m g t (Err e) → WorkedOut n g u r → WorkedOut n g u (Err e)
   refused_alike e (Ok d) w v = absurd (no_reason g e (says n g u (Ok d) v) (says m g t (Err e) w))

@@ -2,7 +2,7 @@
 use Rattle.std.proofs.Common.{◌≡◌, ℕ, zero, suc, pred, ◌<◌, ◌≤◌, true, ltb, List, [], ◌∷◌, length, drop, Some, None, Ok, Err, Option, Result, refl, ap, ◌∙◌, ⊎_elim, arith}
 use Rattle.std.proofs.lemmas.Bool.{cases_Bool}
 use Rattle.std.proofs.lemmas.Bool.Decides.{nat_tests}
-use Rattle.std.specs.List.{cons_option, filter_map}
+use Rattle.std.specs.List.{slice_get, cons_option, filter_map}
 use Rattle.model.specs.declared.refusal.Refusal.{Refusal}
 use Rattle.model.specs.declared.refusal.Refusal.TheVariants.{BadRecord}
 use Rattle.image.specs.declared.record.Kind.{Kind}
@@ -72,3 +72,7 @@ pub fault_given : (x : Reading) → first_fault (given x) ≡ fault_of x
 fault_given end = refl
 fault_given (fault e) = refl
 fault_given (next r x) = fault_given x
+
+-- what stands at a place of a list, by another name of both
+pub at_place : {X : Type 0} (xs ys : List X) (i n : ℕ) (r : Option X) → r ≡ slice_get xs i → xs ≡ ys → i ≡ n → r ≡ slice_get ys n
+at_place xs ys i n r e p q = e ∙ ap (λ zs. slice_get zs i) p ∙ ap (λ k. slice_get ys k) q

@@ -45,6 +45,8 @@ fn fact(constraint: Constraint, b: &[u8], at: usize) -> Fact
     }
 }
 
+// Inlined into each walk over the records, where only the fields that are looked for are then read.
+#[inline(always)]
 fn fields_of(kind: Kind, b: &[u8]) -> Record
     requires { size_of kind ≤ length b.now }
     ensures { result ≡ fields kind b.now }
@@ -89,7 +91,7 @@ fn fields_of(kind: Kind, b: &[u8]) -> Record
 }
 
 // The record that the bytes begin with, and the bytes behind it.
-#[inline]
+#[inline(always)]
 pub fn split_record(b: &[u8]) -> Result<(Record, &[u8]), Refusal>
     ensures { MatchResult result (λ p. (front_of b.now ≡ Ok p.0) × (p.1.now ≡ drop (one b.now 0) b.now)) (λ e. front_of b.now ≡ Err e) }
 {

@@ -53,7 +53,7 @@ impl<'a> Records<'a> {
     }
 
     // The next record, and what is left behind it.
-    #[inline]
+    #[inline(always)]
     fn split_first(&self) -> Result<(Record, Records<'a>), Refusal>
         requires { 0 < length self.now.rest.now }
         ensures { MatchResult result (λ p. (left self.now ≡ Ok p.0 ∷ left p.1) × (length p.1.rest.now < length self.now.rest.now)) (λ e. left self.now ≡ Err e ∷ []) }
@@ -78,7 +78,7 @@ impl<'a> Iterator for Records<'a> {
     ghost remaining = { λ s. at_most (length s.rest.now) };
 
     // inlined, as all that it calls: each look-up goes over the records
-    #[inline]
+    #[inline(always)]
     fn next(&mut self) -> Option<Result<Record, Refusal>> {
         if self.rest.is_empty() {
             return None;

@@ -22,9 +22,14 @@ fn fill<G: ScopeGraph, L: Listing<G>, const N: usize>(
     requires { items_of row.old ≡ [] }
     ensures { (s : Scope) → L.Listing.scope list.now graph.now ≡ Some s → MatchOption result (N < length (L.Listing.list s)) (λ u. items_of row.new ≡ L.Listing.list s) }
 {
+    let count = list.count(graph)?;
+    // what is too long is not gone over
+    if count > N {
+        return None;
+    }
     // a holder is asked by number and has no slices, so a chain would be one over numbers too
-    for i in 0..list.count(graph)? {
-        row.push(list.get(graph, i)?).ok()?;
+    for i in 0..count {
+        row.push(list.get(graph, i)?).unwrap();
     }
     Some(())
 }
@@ -36,10 +41,11 @@ pub fn copy_scope<G: ScopeGraph>(graph: &G, scope: usize) -> Option<PlainScope>
     let (least, most) = graph.passes(scope)?;
     let mut nodes = Row::<Node, 32>::new(Node::Call { scope: 0 });
     fill(&mut nodes, graph, &Nodes(scope))?;
-    let mut edges = Row::<Edge, 96>::new(NO_EDGE);
-    fill(&mut edges, graph, &Edges(scope))?;
+    // the few facts before the many edges, since either may be too many
     let mut facts = Row::<Fact, 4>::new(NO_FACT);
     fill(&mut facts, graph, &Facts(scope))?;
+    let mut edges = Row::<Edge, 96>::new(NO_EDGE);
+    fill(&mut edges, graph, &Edges(scope))?;
     let flow = Flow::new(nodes.len(), edges.as_slice(), facts.as_slice())?;
     Some(PlainScope {
         least,

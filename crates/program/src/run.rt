@@ -24,8 +24,7 @@ fn asks_sample(rt: &HostRuntime, name: &str) -> anyhow::Result<bool> {
     let mut sample = false;
     for word in env::args(rt)?.skip(1) {
         if word.as_str() != "--sample" {
-            let usage = format!(in rt.alloc(); "usage: {name} [--sample] < IMAGE")?;
-            return Err(anyhow!(usage));
+            return Err(anyhow!("usage: {name} [--sample] < IMAGE"));
         }
         sample = true;
     }

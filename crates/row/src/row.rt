@@ -1,5 +1,5 @@
 // A list of items in an array, with room for N.
-ghost use Rattle.std.specs.Prelude.{◌≡◌, ◌≤◌, length};
+ghost use Rattle.std.specs.Prelude.{◌≡◌, ◌≤◌, ⊤, length};
 
 use std::alloc::AllocError;
 
@@ -18,6 +18,10 @@ pub struct Row<T, const N: usize> {
 impl<T: Copy, const N: usize> Copy for Row<T, N> {}
 
 impl<T: Copy, const N: usize> Clone for Row<T, N> {
+    ghost is_clone = { λ row copy. copy ≡ row };
+
+    ghost is_infallible = { λ _. ⊤ };
+
     fn clone(&self) -> Result<Row<T, N>, AllocError> {
         Ok(*self)
     }

@@ -1,3 +1,4 @@
+mod Absent
 mod ByNumber
 mod Items
 mod Judging

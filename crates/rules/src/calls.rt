@@ -1,5 +1,5 @@
 // Which scopes a scope calls.
-ghost use Rattle.std.specs.Prelude.{◌≡◌, ℕ, ◌<◌, ◌≤◌, false, [], MatchBool, slice_index_or};
+ghost use Rattle.std.specs.Prelude.{◌≡◌, ℕ, ◌<◌, ◌≤◌, false, [], length, MatchBool, slice_index_or};
 ghost use Rattle.model.specs.Graph.{node_at};
 ghost use Rattle.rules.specs.CallOrders.{callee_of, Row, Ready, Blocked};
 
@@ -35,14 +35,23 @@ fn calls_of<G: ScopeGraph>(graph: &G, scope: usize) -> [bool; SCOPES]
     called
 }
 
-// The same for each of the 16 scopes that there may be.
-pub fn call_table<G: ScopeGraph>(graph: &G) -> [[bool; SCOPES]; SCOPES]
+// The same for each of the 16 scopes that there may be. Only those that are there are asked: a holder may have to go
+// over all that it holds to say that a scope is not there.
+pub fn call_table<G: ScopeGraph>(graph: &G, scopes: usize) -> [[bool; SCOPES]; SCOPES]
+    requires { scopes ≡ length (G.ScopeGraph.graph graph.now) }
     ensures { (s : ℕ) → s < 16 → Row (G.ScopeGraph.graph graph.now) s (slice_index_or result s []) }
 {
     array::from_fn(
         |scope| -> [bool; SCOPES]
+            requires { scopes ≡ length (G.ScopeGraph.graph graph.now) }
             ensures { Row (G.ScopeGraph.graph graph.entry.now) scope result }
-        { calls_of(graph, scope) },
+        {
+            if scope < scopes {
+                calls_of(graph, scope)
+            } else {
+                [false; SCOPES]
+            }
+        },
     )
 }
 

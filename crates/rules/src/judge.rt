@@ -19,6 +19,7 @@ fn some_over_limit<G: ScopeGraph>(graph: &G, scopes: usize) -> bool
 }
 
 // Does a scope reach itself through calls?
+#[tactic(auto, using(crate::proofs::Rings::ring_where_none))]
 fn has_ring<G: ScopeGraph>(graph: &G) -> bool
     requires { length (G.ScopeGraph.graph graph.now) ≤ 16 }
     ensures { MatchBool result (Ring (G.ScopeGraph.graph graph.now)) (Ring (G.ScopeGraph.graph graph.now) → ⊥) }

@@ -29,7 +29,7 @@ pub fn call_order<G: ScopeGraph>(graph: &G) -> Option<[u8; SCOPES]>
     if scopes > SCOPES {
         return None;
     }
-    let table = call_table(graph);
+    let table = call_table(graph, scopes);
     let mut order = [0; SCOPES];
     let mut placed = [false; SCOPES];
     // by number: it is the place in the order; a chain would have to carry both arrays along, and is no plainer

@@ -17,6 +17,7 @@ fn push_line<C: CostText>(text: &mut String, answer: &Answer<C>) -> Result<(), A
 }
 
 // One line for each answer.
+#[tactic(auto, using(crate::proofs::Lines::line_more))]
 pub fn answer_lines<C: CostText>(heap: Global, answers: &[Answer<C>]) -> Result<String, AllocError>
     ensures { IfOk result (λ t. string_bytes t ≡ answers_text C.said answers.now) }
 {

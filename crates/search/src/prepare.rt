@@ -48,13 +48,17 @@ impl Flow {
     pub fn new(nodes: usize, edges: &[Edge], facts: &[Fact]) -> Option<Flow>
         ensures { Prepared nodes edges.now facts.now result }
     {
-        if nodes > 32 || !all_forward(edges, nodes) {
+        // the limits first: what is too long is not gone over
+        if nodes > 32 || edges.len() > 96 || facts.len() > 4 {
+            return None;
+        }
+        if !all_forward(edges, nodes) {
             return None;
         }
         let mut edge_row = Row::new(NO_EDGE);
-        edge_row.extend_from_slice(edges).ok()?;
+        edge_row.extend_from_slice(edges).unwrap();
         let mut fact_row = Row::new(NO_FACT);
-        fact_row.extend_from_slice(facts).ok()?;
+        fact_row.extend_from_slice(facts).unwrap();
         Some(Flow {
             nodes,
             edges: edge_row,

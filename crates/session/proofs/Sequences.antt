@@ -1,13 +1,13 @@
 -- One call more.
-use Rattle.std.proofs.Common.{◌≡◌, ℕ, ◌+◌, ◌<◌, List, [], ◌∷◌, ◌++◌, length, get_or, take, Result, sym, refl, subst}
-use Rattle.std.proofs.lemmas.List.{take_more}
+use Rattle.std.proofs.Common.{◌≡◌, ℕ, ◌+◌, ◌<◌, ◌≤◌, List, [], ◌∷◌, ◌++◌, length, get_or, take, Result, sym, refl, subst}
+use Rattle.std.proofs.lemmas.List.{take_more, take_all}
 use Rattle.model.specs.declared.refusal.Refusal.{Refusal}
 use Rattle.model.specs.declared.trail.Line.{Line}
 use Rattle.model.specs.Graph.{Scope}
 use Rattle.model.specs.Measures.{Measure}
 use Rattle.session.specs.declared.call.Call.{Call}
 use Rattle.session.specs.declared.call.Reply.{Reply}
-use Rattle.session.specs.Sequences.{Answers, Sequence}
+use Rattle.session.specs.Sequences.{Answers, Sequence, Played}
 
 module _ {C : Type 0} (m : Measure C) where
   pub sequence_more : (cs : List Call) (bs : List (Result (Reply C) Refusal)) (c : Call) (a : Result (Reply C) Refusal) (g h k : List Scope) (work w v : List C) (trail t u : List Line) →
@@ -24,3 +24,7 @@ module _ {C : Type 0} (m : Measure C) where
   sequence_next calls i d bs cs a h k work w v trail t u l e p s =
       subst (λ (x : List (Result (Reply C) Refusal)). Sequence m (take (i + 1) calls) x [] work trail k v u) (sym e)
       (subst (λ (x : List Call). Sequence m x (bs ++ (a ∷ [])) [] work trail k v u) (sym (take_more calls i d l)) (sequence_more (take i calls) bs (get_or calls i d) a [] h k work w v trail t u p s))
+
+  -- with each call answered, the whole list is played
+  pub all_played : (calls : List Call) (i : ℕ) (bs : List (Result (Reply C) Refusal)) (g : List Scope) (work w : List C) (trail t : List Line) → length calls ≤ i → Sequence m (take i calls) bs [] work trail g w t → Played m calls bs work trail w t
+  all_played calls i bs g work w trail t h s = (g, subst (λ (cs : List Call). Sequence m cs bs [] work trail g w t) (take_all i calls h) s)

@@ -10,6 +10,7 @@ use std::alloc::{AllocError, Global};
 use workbook::book::Workbook;
 
 // The answers to the calls, on a workbook straight from its making. Where there is no memory for that, nothing is done.
+#[tactic(auto, using(crate::proofs::Sequences::sequence_next, crate::proofs::Sequences::all_played))]
 pub fn play<C: Cost>(
     heap: Global,
     calls: &[Call],

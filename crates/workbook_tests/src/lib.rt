@@ -13,3 +13,5 @@ mod plays;
 mod settings;
 #[cfg(test)]
 mod step;
+#[cfg(test)]
+mod texts;

@@ -1,4 +1,4 @@
-use Rattle.std.proofs.Common.{◌+◌, ◌^◌, ◌≤◌, length, sym, ◌∙◌, subst, arith}
+use Rattle.std.proofs.Common.{◌+◌, ◌^◌, ◌≤◌, length, sym, subst, arith, rules}
 use Rattle.search.specs.Flows.{facts_of}
 use Rattle.search.proofs.Rounded.{AreRounds, rounds_skip, rounds_more, rounds_all}
 use Rattle.search.proofs.flow.Flow.costliest.Goals as goal
@@ -12,7 +12,7 @@ loop-round-preserved g c =
     let i = c.loop-round.round in
     elim c.if-is_useful.branch [
       | then-is_useful w ↦
-          subst (AreRounds laws value f c.args.pass c.args.ending (i + 1)) (sym (w.best-is ∙ w.costlier-best.ensures))
+          subst (AreRounds laws value f c.args.pass c.args.ending (i + 1)) (search rules)
           (rounds_more laws value f c.args.pass c.args.ending i c.loop-round.best w.round_best-found.result w.if-is_useful.ensures w.round_best-found.ensures c.loop-round.invariant)
       | else-is_useful w ↦
           subst (AreRounds laws value f c.args.pass c.args.ending (i + 1)) (sym w.best-is)
