@@ -1,11 +1,10 @@
 -- A scope that is not there calls none.
-use Rattle.std.proofs.Common.{◌≡◌, ℕ, ◌<◌, ◌≤◌, Bool, true, false, length, List, get_or, replicate, Some, None, Option, sym, ◌∙◌, arith}
+use Rattle.std.proofs.Common.{◌≡◌, ℕ, ◌≤◌, Bool, true, false, length, List, replicate, Some, None, Option, sym, ◌∙◌, arith}
 use Rattle.std.specs.List.{slice_get}
 use Rattle.std.proofs.lemmas.List.{get_or-replicate}
 use Rattle.std.proofs.lemmas.Option.{slice_get_past}
 use Rattle.model.specs.declared.graph.Node.{Node}
-use Rattle.model.specs.Graph.{Scope, in_scope, node_at}
-use Rattle.model.specs.Rules.{Calls}
+use Rattle.model.specs.Graph.{Scope, in_scope}
 use Rattle.rules.specs.CallOrders.{Row}
 
 no_node : (o : Option Scope) (n : ℕ) (x : Node) → o ≡ None → in_scope o (λ s. slice_get s.nodes n) ≡ Some x → ⊥
