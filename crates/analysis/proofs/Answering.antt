@@ -38,8 +38,9 @@ module _ {C : Type 0} (m : Measure C) (g : List Scope) (kept : Keeps g) (bounds 
   is_bound : Solved m g (bounds ++ table) trail' 0 → IsBound m g 0 (get_or (bounds ++ table) 0 m.nothing)
   is_bound w = record { attained = (w.shown, w.is_run, w.costs); greatest = w.worst }
 
-  pub answered_bound : get_or solved 0 false ≡ true → (c : C) → c ≡ get_or bounds 0 c → Analyzed m g work (bounds ++ table) trail trail' (Ok c)
-  answered_bound q c is = go (now 0 (some_scope g kept))
+  -- work' is the work table at the end: any list that equals the bounds with the rest of the table behind them
+  pub answered_bound : get_or solved 0 false ≡ true → (work' : List C) (c : C) → work' ≡ bounds ++ table → c ≡ get_or bounds 0 c → Analyzed m g work work' trail trail' (Ok c)
+  answered_bound q work' c all is = rw all (go (now 0 (some_scope g kept)))
     where
       inside : 0 < length bounds
       inside = let h = some_scope g kept in omega arith
@@ -51,8 +52,8 @@ module _ {C : Type 0} (m : Measure C) (g : List Scope) (kept : Keeps g) (bounds 
       go (inl (p, w)) = bound room kept lines e (subst (IsBound m g 0) (sym e) (is_bound w)) tabled
       go (inr (p, w)) = absurd (true≢false (sym q ∙ p))
 
-  pub answered_none : get_or solved 0 false ≡ false → Analyzed m g work (bounds ++ table) trail trail' (Err NoRun)
-  answered_none q = go (now 0 (some_scope g kept))
+  pub answered_none : get_or solved 0 false ≡ false → (work' : List C) → work' ≡ bounds ++ table → Analyzed m g work work' trail trail' (Err NoRun)
+  answered_none q work' all = rw all (go (now 0 (some_scope g kept)))
     where
       go : Settled m g (bounds ++ table) trail' solved 0 → Analyzed m g work (bounds ++ table) trail trail' (Err NoRun)
       go (inl (p, w)) = absurd (true≢false (sym p ∙ q))

@@ -1,4 +1,5 @@
-use Rattle.std.proofs.Common.{is_some, refl, ap, subst, arith}
+use Rattle.std.proofs.Common.{is_some, refl, ap, subst, arith, rules}
+use Rattle.std.proofs.lemmas.List.{set-get_or}
 use Rattle.model.specs.Analysis.Early.{short_work, broken, short_trail}
 use Rattle.model.specs.Analysis.Analyzed.{refused}
 use Rattle.rules.specs.CallOrders.{Ordered}
@@ -27,6 +28,7 @@ unwrap-order-requires g c =
     let G = g.G.ScopeGraph.graph c.args.graph.now in
     ap is_some (order_there G (keeps_from G c.in_default.ensures) _ c.call_order.ensures).1
 
+-- the work table and the bound by equations that are searched, not read off one form of the code; `set-get_or`: a place that gets its own value back changes nothing
 pub returns-then-solved : goal.returns-then-solved
 returns-then-solved g c =
     let G = g.G.ScopeGraph.graph c.args.graph.now in
@@ -36,9 +38,8 @@ returns-then-solved g c =
     let bounds = c.settle_all-solved.new.bounds in
     let solved = c.settle_all-solved.result in
     let last = c.settle_all-solved.new.trail in
-    let w = c.index-bounds-0 in
     answered_bound m G kept bounds c.settle_all-solved.new.table c.args.work.now c.args.trail.now last solved (settled_all m G bounds last solved c.unwrap-order.result (subst (Ordered G) c.unwrap-order.ensures c.call_order.ensures) c.settle_all-solved.ensures.settled)
-    (omega arith) c.settle_all-solved.ensures.rest (omega arith) (omega (arith, c.scopes.ensures, c.if-trail-scopes.false)) c.if-solved.true w.result w.is
+    (omega arith) c.settle_all-solved.ensures.rest (omega arith) (omega (arith, c.scopes.ensures, c.if-trail-scopes.false)) c.if-solved.true _ _ (search (rules, set-get_or)) (search rules)
 
 pub returns-else-solved : goal.returns-else-solved
 returns-else-solved g c =
@@ -50,4 +51,4 @@ returns-else-solved g c =
     let solved = c.settle_all-solved.result in
     let last = c.settle_all-solved.new.trail in
     answered_none m G kept bounds c.settle_all-solved.new.table c.args.work.now c.args.trail.now last solved (settled_all m G bounds last solved c.unwrap-order.result (subst (Ordered G) c.unwrap-order.ensures c.call_order.ensures) c.settle_all-solved.ensures.settled)
-    (omega arith) c.settle_all-solved.ensures.rest (omega arith) (omega (arith, c.scopes.ensures, c.if-trail-scopes.false)) c.if-solved.false
+    (omega arith) c.settle_all-solved.ensures.rest (omega arith) (omega (arith, c.scopes.ensures, c.if-trail-scopes.false)) c.if-solved.false _ (search (rules, set-get_or))
